@@ -1,0 +1,4 @@
+pub mod Bits
+pub mod Signs
+pub mod Ops
+pub mod Lists

@@ -1,0 +1,49 @@
+-- Lists of words: whether they have given widths, and the lists of given widths by number.
+-- The project's own.
+use Rattle.std.specs.Prelude.{ℕ, ◌+◌, ◌*◌, ◌/◌, ◌%◌, ◌^◌, ◌==◌, ◌&&◌, List, [], ◌∷◌, Bool, true, false, map}
+use Rattle.knox_words.specs.Bits.{Bits, bits, is_word}
+
+abbrev pub Words : Type 0
+Words = List Bits
+
+-- whether two words are equal
+abbrev pub same_word : Bits → Bits → Bool
+same_word a b = a.width == b.width && a.value == b.value
+
+-- whether two lists of words are equal
+abbrev pub same_words : Words → Words → Bool
+same_words [] [] = true
+same_words [] (b ∷ bs) = false
+same_words (a ∷ as') [] = false
+same_words (a ∷ as') (b ∷ bs) = same_word a b && same_words as' bs
+
+-- whether a is a word of width w
+abbrev pub fits : ℕ → Bits → Bool
+fits w a = a.width == w && is_word a
+
+-- whether some words have these widths, one for one
+abbrev pub fit : List ℕ → Words → Bool
+fit [] [] = true
+fit [] (a ∷ as') = false
+fit (w ∷ ws) [] = false
+fit (w ∷ ws) (a ∷ as') = fits w a && fit ws as'
+
+-- the zero words of these widths
+abbrev pub zeros : List ℕ → Words
+zeros ws = map (λ w. bits w 0) ws
+
+-- the sum of some widths
+abbrev pub total : List ℕ → ℕ
+total [] = 0
+total (w ∷ ws) = w + total ws
+
+-- the words of these widths with a number below 2 to the sum of the widths, the first word the most significant
+abbrev pub decoded : List ℕ → ℕ → Words
+decoded [] n = []
+decoded (w ∷ ws) n = bits w (n / 2 ^ total ws) ∷ decoded ws (n % 2 ^ total ws)
+
+-- the number of some words of these widths
+abbrev pub number : List ℕ → Words → ℕ
+number [] as' = 0
+number (w ∷ ws) [] = 0
+number (w ∷ ws) (a ∷ as') = a.value * 2 ^ total ws + number ws as'
