@@ -7,7 +7,7 @@ use Rattle.std.proofs.lemmas.Grind.{common_steps}
 use Rattle.std.proofs.Math.Nat.{mod-eq_of_lt, mod_self, zero-mod, div-le_self, mod-lt}
 use Rattle.std.proofs.Math.IntN.{*ℤ_comm}
 use Rattle.std.proofs.Math.Pow.{pow_mono}
-use Rattle.knox_words.specs.Signs.{sg, mag, rest, floor_div}
+use Rattle.knox_words.specs.Signs.{sg, magnitude, rest, floor_div}
 
 -- 2 ^ w is twice its half
 pub halves : (w : ℕ) → 1 ≤ w → 2 ^ w ≡ 2 ^ (w - 1) + 2 ^ (w - 1)
@@ -19,11 +19,11 @@ sg_pos w a h = grind (arith, common_steps)
 pub sg_neg : (w a : ℕ) → nat_le (2 ^ (w - 1)) a ≡ true → sg w a ≡ negsuc (2 ^ w - 1 - a)
 sg_neg w a h = grind (arith, common_steps)
 
-pub mag_pos : (w a : ℕ) → nat_le (2 ^ (w - 1)) a ≡ false → mag w a ≡ a
-mag_pos w a h = grind (arith, common_steps)
+pub magnitude_pos : (w a : ℕ) → nat_le (2 ^ (w - 1)) a ≡ false → magnitude w a ≡ a
+magnitude_pos w a h = grind (arith, common_steps)
 
-pub mag_neg : (w a : ℕ) → nat_le (2 ^ (w - 1)) a ≡ true → mag w a ≡ 2 ^ w - a
-mag_neg w a h = grind (arith, common_steps)
+pub magnitude_neg : (w a : ℕ) → nat_le (2 ^ (w - 1)) a ≡ true → magnitude w a ≡ 2 ^ w - a
+magnitude_neg w a h = grind (arith, common_steps)
 
 pub rest-neg : (q m : ℕ) → q < m → rest (neg_ℤ (pos q)) m ≡ (m - q) % m
 rest-neg zero m h = zero-mod m ∙ (sym (mod_self m) ∙ ap (λ (k : ℕ). k % m) (omega arith))
@@ -88,56 +88,56 @@ floor_left-is (negsuc a) (negsuc b) h =
     let whole : suc a / suc b * suc b + suc a % suc b ≡ suc a = div-add-mod' (suc a) (suc b) in
     less_product (negsuc a) (negsuc b) (pos (suc a / suc b)) (neg_ℤ (pos (suc a % suc b))) (omega (arith, ints))
 
-pub abs_sg : (w b : ℕ) → b < 2 ^ w → unsigned_abs (sg w b) ≡ mag w b
+pub abs_sg : (w b : ℕ) → b < 2 ^ w → unsigned_abs (sg w b) ≡ magnitude w b
 abs_sg w b h = grind (arith, common_steps)
 
-pub mag_above : (w b : ℕ) → 0 < b → b < 2 ^ w → 0 < mag w b
-mag_above w b l h = grind (arith, common_steps)
+pub magnitude_above : (w b : ℕ) → 0 < b → b < 2 ^ w → 0 < magnitude w b
+magnitude_above w b l h = grind (arith, common_steps)
 
-pub mag_below : (w b : ℕ) → 1 ≤ w → b < 2 ^ w → mag w b < 2 ^ w
-mag_below w b l h = let e = halves w l in let q : 0 < 2 ^ (w - 1) = pow_pos (w - 1) in grind (arith, common_steps)
+pub magnitude_below : (w b : ℕ) → 1 ≤ w → b < 2 ^ w → magnitude w b < 2 ^ w
+magnitude_below w b l h = let e = halves w l in let q : 0 < 2 ^ (w - 1) = pow_pos (w - 1) in grind (arith, common_steps)
 
-pub one_mag : (w a : ℕ) → nat_le (2 ^ (w - 1)) a ≡ true → a < 2 ^ w → suc (2 ^ w - 1 - a) ≡ mag w a
-one_mag w a s h = let e : suc (2 ^ w - 1 - a) ≡ 2 ^ w - a = omega arith in e ∙ sym (mag_neg w a s)
+pub one_magnitude : (w a : ℕ) → nat_le (2 ^ (w - 1)) a ≡ true → a < 2 ^ w → suc (2 ^ w - 1 - a) ≡ magnitude w a
+one_magnitude w a s h = let e : suc (2 ^ w - 1 - a) ≡ 2 ^ w - a = omega arith in e ∙ sym (magnitude_neg w a s)
 
 -- srem
 abbrev pub srem_rest : ℕ → ℕ → ℕ → ℕ
 srem_rest w a b = rest (sg w a -ℤ (sg w b *ℤ int_div (sg w a) (sg w b))) (2 ^ w)
 
-pub srem_pos : (w a b : ℕ) → nat_le (2 ^ (w - 1)) a ≡ false → b < 2 ^ w → srem_rest w a b ≡ (mag w a % mag w b) % 2 ^ w
-srem_pos w a b s h = rw (trunc_left (sg w a) (sg w b), sg_pos w a s, abs_sg w b h, mag_pos w a s) refl
+pub srem_pos : (w a b : ℕ) → nat_le (2 ^ (w - 1)) a ≡ false → b < 2 ^ w → srem_rest w a b ≡ (magnitude w a % magnitude w b) % 2 ^ w
+srem_pos w a b s h = rw (trunc_left (sg w a) (sg w b), sg_pos w a s, abs_sg w b h, magnitude_pos w a s) refl
 
-pub srem_neg : (w a b : ℕ) → 1 ≤ w → nat_le (2 ^ (w - 1)) a ≡ true → 0 < b → a < 2 ^ w → b < 2 ^ w → srem_rest w a b ≡ (2 ^ w - mag w a % mag w b) % 2 ^ w
+pub srem_neg : (w a b : ℕ) → 1 ≤ w → nat_le (2 ^ (w - 1)) a ≡ true → 0 < b → a < 2 ^ w → b < 2 ^ w → srem_rest w a b ≡ (2 ^ w - magnitude w a % magnitude w b) % 2 ^ w
 srem_neg w a b l s p k h =
-    let abs : unsigned_abs (sg w b) ≡ mag w b = abs_sg w b h in
-    let some : 0 < mag w b = mag_above w b p h in
-    let low : mag w a % mag w b < mag w b = mod-lt (mag w a) some in
-    let under : mag w b < 2 ^ w = mag_below w b l h in
-    let fits : mag w a % mag w b < 2 ^ w = omega arith in
-    let one : suc (2 ^ w - 1 - a) ≡ mag w a = one_mag w a s k in
-    rw (trunc_left (sg w a) (sg w b), sg_neg w a s, abs, sym one) (rw one (rest-neg (mag w a % mag w b) (2 ^ w) fits))
+    let abs : unsigned_abs (sg w b) ≡ magnitude w b = abs_sg w b h in
+    let some : 0 < magnitude w b = magnitude_above w b p h in
+    let low : magnitude w a % magnitude w b < magnitude w b = mod-lt (magnitude w a) some in
+    let under : magnitude w b < 2 ^ w = magnitude_below w b l h in
+    let fits : magnitude w a % magnitude w b < 2 ^ w = omega arith in
+    let one : suc (2 ^ w - 1 - a) ≡ magnitude w a = one_magnitude w a s k in
+    rw (trunc_left (sg w a) (sg w b), sg_neg w a s, abs, sym one) (rw one (rest-neg (magnitude w a % magnitude w b) (2 ^ w) fits))
 
 -- sdiv
 abbrev pub sdiv_rest : ℕ → ℕ → ℕ → ℕ
 sdiv_rest w a b = rest (int_div (sg w a) (sg w b)) (2 ^ w)
 
-quotient_below : (w a b : ℕ) → 1 ≤ w → a < 2 ^ w → mag w a / mag w b < 2 ^ w
+quotient_below : (w a b : ℕ) → 1 ≤ w → a < 2 ^ w → magnitude w a / magnitude w b < 2 ^ w
 quotient_below w a b l h =
-    let under : mag w a < 2 ^ w = mag_below w a l h in
-    let le : mag w a / mag w b ≤ mag w a = div-le_self (mag w a) (mag w b) in
+    let under : magnitude w a < 2 ^ w = magnitude_below w a l h in
+    let le : magnitude w a / magnitude w b ≤ magnitude w a = div-le_self (magnitude w a) (magnitude w b) in
     omega arith
 
-pub sdiv_pos-pos : (w a b : ℕ) → nat_le (2 ^ (w - 1)) a ≡ false → nat_le (2 ^ (w - 1)) b ≡ false → sdiv_rest w a b ≡ (mag w a / mag w b) % 2 ^ w
-sdiv_pos-pos w a b s t = rw (sg_pos w a s, sg_pos w b t, mag_pos w a s, mag_pos w b t) refl
+pub sdiv_pos-pos : (w a b : ℕ) → nat_le (2 ^ (w - 1)) a ≡ false → nat_le (2 ^ (w - 1)) b ≡ false → sdiv_rest w a b ≡ (magnitude w a / magnitude w b) % 2 ^ w
+sdiv_pos-pos w a b s t = rw (sg_pos w a s, sg_pos w b t, magnitude_pos w a s, magnitude_pos w b t) refl
 
-pub sdiv_neg-neg : (w a b : ℕ) → nat_le (2 ^ (w - 1)) a ≡ true → nat_le (2 ^ (w - 1)) b ≡ true → a < 2 ^ w → b < 2 ^ w → sdiv_rest w a b ≡ (mag w a / mag w b) % 2 ^ w
-sdiv_neg-neg w a b s t h k = rw (sg_neg w a s, sg_neg w b t, sym (one_mag w a s h), sym (one_mag w b t k)) refl
+pub sdiv_neg-neg : (w a b : ℕ) → nat_le (2 ^ (w - 1)) a ≡ true → nat_le (2 ^ (w - 1)) b ≡ true → a < 2 ^ w → b < 2 ^ w → sdiv_rest w a b ≡ (magnitude w a / magnitude w b) % 2 ^ w
+sdiv_neg-neg w a b s t h k = rw (sg_neg w a s, sg_neg w b t, sym (one_magnitude w a s h), sym (one_magnitude w b t k)) refl
 
-pub sdiv_pos-neg : (w a b : ℕ) → 1 ≤ w → nat_le (2 ^ (w - 1)) a ≡ false → nat_le (2 ^ (w - 1)) b ≡ true → a < 2 ^ w → b < 2 ^ w → sdiv_rest w a b ≡ (2 ^ w - mag w a / mag w b) % 2 ^ w
-sdiv_pos-neg w a b l s t h k = rw (sym (rest-neg (mag w a / mag w b) (2 ^ w) (quotient_below w a b l h))) (rw (sg_pos w a s, sg_neg w b t, mag_pos w a s, sym (one_mag w b t k)) refl)
+pub sdiv_pos-neg : (w a b : ℕ) → 1 ≤ w → nat_le (2 ^ (w - 1)) a ≡ false → nat_le (2 ^ (w - 1)) b ≡ true → a < 2 ^ w → b < 2 ^ w → sdiv_rest w a b ≡ (2 ^ w - magnitude w a / magnitude w b) % 2 ^ w
+sdiv_pos-neg w a b l s t h k = rw (sym (rest-neg (magnitude w a / magnitude w b) (2 ^ w) (quotient_below w a b l h))) (rw (sg_pos w a s, sg_neg w b t, magnitude_pos w a s, sym (one_magnitude w b t k)) refl)
 
-pub sdiv_neg-pos : (w a b : ℕ) → 1 ≤ w → nat_le (2 ^ (w - 1)) a ≡ true → nat_le (2 ^ (w - 1)) b ≡ false → a < 2 ^ w → b < 2 ^ w → sdiv_rest w a b ≡ (2 ^ w - mag w a / mag w b) % 2 ^ w
-sdiv_neg-pos w a b l s t h k = rw (sym (rest-neg (mag w a / mag w b) (2 ^ w) (quotient_below w a b l h))) (rw (sg_neg w a s, sg_pos w b t, sym (one_mag w a s h), mag_pos w b t) refl)
+pub sdiv_neg-pos : (w a b : ℕ) → 1 ≤ w → nat_le (2 ^ (w - 1)) a ≡ true → nat_le (2 ^ (w - 1)) b ≡ false → a < 2 ^ w → b < 2 ^ w → sdiv_rest w a b ≡ (2 ^ w - magnitude w a / magnitude w b) % 2 ^ w
+sdiv_neg-pos w a b l s t h k = rw (sym (rest-neg (magnitude w a / magnitude w b) (2 ^ w) (quotient_below w a b l h))) (rw (sg_neg w a s, sg_pos w b t, sym (one_magnitude w a s h), magnitude_pos w b t) refl)
 
 -- smod
 abbrev pub smod_rest : ℕ → ℕ → ℕ → ℕ
@@ -145,24 +145,24 @@ smod_rest w a b = rest (sg w a -ℤ (sg w b *ℤ floor_div (sg w a) (sg w b))) (
 
 floored : (w a b : ℕ) → 0 < b → b < 2 ^ w → smod_rest w a b ≡ rest (floor_left (sg w a) (sg w b)) (2 ^ w)
 floored w a b p h =
-    let abs : unsigned_abs (sg w b) ≡ mag w b = abs_sg w b h in
-    let some : 0 < unsigned_abs (sg w b) = rw abs (mag_above w b p h) in
+    let abs : unsigned_abs (sg w b) ≡ magnitude w b = abs_sg w b h in
+    let some : 0 < unsigned_abs (sg w b) = rw abs (magnitude_above w b p h) in
     ap (λ z. rest z (2 ^ w)) (floor_left-is (sg w a) (sg w b) some)
 
-pub smod_pos-pos : (w a b : ℕ) → nat_le (2 ^ (w - 1)) a ≡ false → nat_le (2 ^ (w - 1)) b ≡ false → 0 < b → b < 2 ^ w → smod_rest w a b ≡ (mag w a % mag w b) % 2 ^ w
-smod_pos-pos w a b s t p h = floored w a b p h ∙ rw (sg_pos w a s, sg_pos w b t, mag_pos w a s, mag_pos w b t) refl
+pub smod_pos-pos : (w a b : ℕ) → nat_le (2 ^ (w - 1)) a ≡ false → nat_le (2 ^ (w - 1)) b ≡ false → 0 < b → b < 2 ^ w → smod_rest w a b ≡ (magnitude w a % magnitude w b) % 2 ^ w
+smod_pos-pos w a b s t p h = floored w a b p h ∙ rw (sg_pos w a s, sg_pos w b t, magnitude_pos w a s, magnitude_pos w b t) refl
 
-left_fits : (w a b : ℕ) → 1 ≤ w → 0 < b → b < 2 ^ w → mag w a % mag w b < 2 ^ w
+left_fits : (w a b : ℕ) → 1 ≤ w → 0 < b → b < 2 ^ w → magnitude w a % magnitude w b < 2 ^ w
 left_fits w a b l p h =
-    let under : mag w b < 2 ^ w = mag_below w b l h in
-    let low : mag w a % mag w b < mag w b = mod-lt (mag w a) (mag_above w b p h) in
+    let under : magnitude w b < 2 ^ w = magnitude_below w b l h in
+    let low : magnitude w a % magnitude w b < magnitude w b = mod-lt (magnitude w a) (magnitude_above w b p h) in
     omega arith
 
-pub smod_neg-neg : (w a b : ℕ) → 1 ≤ w → nat_le (2 ^ (w - 1)) a ≡ true → nat_le (2 ^ (w - 1)) b ≡ true → 0 < b → a < 2 ^ w → b < 2 ^ w → smod_rest w a b ≡ (2 ^ w - mag w a % mag w b) % 2 ^ w
-smod_neg-neg w a b l s t p k h = floored w a b p h ∙ rw (sym (rest-neg (mag w a % mag w b) (2 ^ w) (left_fits w a b l p h))) (rw (sg_neg w a s, sg_neg w b t, sym (one_mag w a s k), sym (one_mag w b t h)) refl)
+pub smod_neg-neg : (w a b : ℕ) → 1 ≤ w → nat_le (2 ^ (w - 1)) a ≡ true → nat_le (2 ^ (w - 1)) b ≡ true → 0 < b → a < 2 ^ w → b < 2 ^ w → smod_rest w a b ≡ (2 ^ w - magnitude w a % magnitude w b) % 2 ^ w
+smod_neg-neg w a b l s t p k h = floored w a b p h ∙ rw (sym (rest-neg (magnitude w a % magnitude w b) (2 ^ w) (left_fits w a b l p h))) (rw (sg_neg w a s, sg_neg w b t, sym (one_magnitude w a s k), sym (one_magnitude w b t h)) refl)
 
-pub smod_neg-pos : (w a b : ℕ) → nat_le (2 ^ (w - 1)) a ≡ true → nat_le (2 ^ (w - 1)) b ≡ false → 0 < b → a < 2 ^ w → b < 2 ^ w → smod_rest w a b ≡ ((mag w b - mag w a % mag w b) % mag w b) % 2 ^ w
-smod_neg-pos w a b s t p k h = floored w a b p h ∙ rw (sg_neg w a s, sg_pos w b t, sym (one_mag w a s k), mag_pos w b t) (ap (λ n. n % 2 ^ w) (up_left (2 ^ w - 1 - a) b p))
+pub smod_neg-pos : (w a b : ℕ) → nat_le (2 ^ (w - 1)) a ≡ true → nat_le (2 ^ (w - 1)) b ≡ false → 0 < b → a < 2 ^ w → b < 2 ^ w → smod_rest w a b ≡ ((magnitude w b - magnitude w a % magnitude w b) % magnitude w b) % 2 ^ w
+smod_neg-pos w a b s t p k h = floored w a b p h ∙ rw (sg_neg w a s, sg_pos w b t, sym (one_magnitude w a s k), magnitude_pos w b t) (ap (λ n. n % 2 ^ w) (up_left (2 ^ w - 1 - a) b p))
 
 floor_left-over : (a y : ℕ) → floor_left (pos a) (negsuc y) ≡ neg_ℤ (pos ((suc y - a % suc y) % suc y))
 floor_left-over zero y =
@@ -173,12 +173,12 @@ floor_left-over (suc a) y =
     let one : suc y - 1 - a % suc y ≡ y - a % suc y = omega arith in
     ap (λ n. neg_ℤ (pos n)) (sym one ∙ up)
 
-pub smod_pos-neg : (w a b : ℕ) → 1 ≤ w → nat_le (2 ^ (w - 1)) a ≡ false → nat_le (2 ^ (w - 1)) b ≡ true → 0 < b → b < 2 ^ w → smod_rest w a b ≡ (2 ^ w - (mag w b - mag w a % mag w b) % mag w b) % 2 ^ w
+pub smod_pos-neg : (w a b : ℕ) → 1 ≤ w → nat_le (2 ^ (w - 1)) a ≡ false → nat_le (2 ^ (w - 1)) b ≡ true → 0 < b → b < 2 ^ w → smod_rest w a b ≡ (2 ^ w - (magnitude w b - magnitude w a % magnitude w b) % magnitude w b) % 2 ^ w
 smod_pos-neg w a b l s t p h =
-    let under : mag w b < 2 ^ w = mag_below w b l h in
-    let low : (mag w b - mag w a % mag w b) % mag w b < mag w b = mod-lt (mag w b - mag w a % mag w b) (mag_above w b p h) in
-    let fits : (mag w b - mag w a % mag w b) % mag w b < 2 ^ w = omega arith in
-    floored w a b p h ∙ rw (sym (rest-neg _ (2 ^ w) fits)) (rw (sg_pos w a s, sg_neg w b t, mag_pos w a s, sym (one_mag w b t h)) (ap (λ z. rest z (2 ^ w)) (floor_left-over a (2 ^ w - 1 - b))))
+    let under : magnitude w b < 2 ^ w = magnitude_below w b l h in
+    let low : (magnitude w b - magnitude w a % magnitude w b) % magnitude w b < magnitude w b = mod-lt (magnitude w b - magnitude w a % magnitude w b) (magnitude_above w b p h) in
+    let fits : (magnitude w b - magnitude w a % magnitude w b) % magnitude w b < 2 ^ w = omega arith in
+    floored w a b p h ∙ rw (sym (rest-neg _ (2 ^ w) fits)) (rw (sg_pos w a s, sg_neg w b t, magnitude_pos w a s, sym (one_magnitude w b t h)) (ap (λ z. rest z (2 ^ w)) (floor_left-over a (2 ^ w - 1 - b))))
 
 -- sra and sext
 pub sra_neg : (w a k all : ℕ) → all + 1 ≡ 2 ^ w → nat_le (2 ^ (w - 1)) a ≡ true → rest (floor_div (sg w a) (pos (2 ^ k))) (2 ^ w) ≡ (all - (all - a) / 2 ^ k) % 2 ^ w
