@@ -1,7 +1,9 @@
 -- Lists of words: whether they have given widths, and the lists of given widths by number.
 -- The project's own.
-use Rattle.std.specs.Prelude.{ℕ, ◌+◌, ◌*◌, ◌/◌, ◌%◌, ◌^◌, ◌==◌, ◌&&◌, List, [], ◌∷◌, Bool, true, false, map}
-use Rattle.knox_words.specs.Bits.{Bits, bits, is_word}
+use Rattle.std.specs.Prelude.{ℕ, ◌+◌, ◌*◌, ◌/◌, ◌%◌, ◌^◌, ◌==◌, ◌&&◌, nat_le, List, [], ◌∷◌, Bool, true, false, map}
+use Rattle.std.specs.List.{list_all}
+use Rattle.std.specs.Cmp.Lexicographic.{pointwise}
+use Rattle.knox_words.specs.Bits.{Bits, bits, is_word, word_or}
 
 abbrev pub Words : Type 0
 Words = List Bits
@@ -12,10 +14,7 @@ same_word a b = a.width == b.width && a.value == b.value
 
 -- whether two lists of words are equal
 abbrev pub same_words : Words → Words → Bool
-same_words [] [] = true
-same_words [] (b ∷ bs) = false
-same_words (a ∷ as') [] = false
-same_words (a ∷ as') (b ∷ bs) = same_word a b && same_words as' bs
+same_words as' bs = pointwise same_word as' bs
 
 -- whether a is a word of width w
 abbrev pub fits : ℕ → Bits → Bool
@@ -28,9 +27,17 @@ fit [] (a ∷ as') = false
 fit (w ∷ ws) [] = false
 fit (w ∷ ws) (a ∷ as') = fits w a && fit ws as'
 
+-- whether some numbers are widths
+abbrev pub are_widths : List ℕ → Bool
+are_widths ws = list_all (λ w. nat_le 1 w && nat_le w 128) ws
+
 -- the zero words of these widths
 abbrev pub zeros : List ℕ → Words
 zeros ws = map (λ w. bits w 0) ws
+
+-- the same, where the zero word of width 1 stands for a number that is no width
+abbrev pub zeros_or : List ℕ → Words
+zeros_or ws = map (λ w. word_or w 0) ws
 
 -- the sum of some widths
 abbrev pub total : List ℕ → ℕ

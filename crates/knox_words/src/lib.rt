@@ -12,6 +12,7 @@ mod op;
 mod resize;
 mod shift;
 mod total;
+mod widths;
 mod word;
 
 pub use apply::{and, fits2, op1, op2};
@@ -19,4 +20,5 @@ pub use list::Words;
 pub use op::{Op1, Op2};
 pub use resize::{ite, sext, slice, uext};
 pub use total::{choose, op2_or, sext_or, slice_or, uext_or, word_at, word_far, word_or, zero};
+pub use widths::{are_widths, fits, has_width};
 pub use word::Word;
