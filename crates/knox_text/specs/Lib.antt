@@ -1,0 +1,5 @@
+pub mod Spot
+pub mod Places
+pub mod Inside
+pub mod Numbers
+pub mod Examples
