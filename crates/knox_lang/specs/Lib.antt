@@ -1,0 +1,5 @@
+pub mod Scope
+pub mod Eval
+pub mod Weight
+pub mod Exec
+pub mod Operation

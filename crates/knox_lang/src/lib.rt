@@ -1,0 +1,23 @@
+//! The languages of specifications, drivers and emulators: their types, and what expressions,
+//! statements and operations mean. Start at `op`, whose meaning is `specs/Operation.antt`.
+#![tactic(auto)]
+
+mod evaluate;
+mod execute;
+mod expr;
+mod operate;
+mod parts;
+mod program;
+mod queries;
+mod scope;
+
+pub use evaluate::{eval, eval_in};
+pub use execute::exec_in;
+pub use expr::{Expr, Slot, Space, Stmt};
+pub use operate::{SpecAnswers, exec, op};
+pub use parts::{Body, DriverParts, EmuParts, Field, Fun, OpHead, SpecParts};
+pub use program::{
+    DriverProgram, EmuProgram, SpecProgram, SpecState, fits_call, fits_state, initial,
+};
+pub use queries::{NoQueries, Queries};
+pub use scope::{Scope, Spaces};
