@@ -1,10 +1,10 @@
 -- The words of some widths by number: each list of words that fits has one number below 2 to the sum
 -- of the widths, and each such number gives words that fit.
-use Rattle.std.proofs.Common.{◌≡◌, ℕ, ◌+◌, ◌*◌, ◌/◌, ◌%◌, ◌^◌, ◌<◌, ◌≤◌, List, [], ◌∷◌, ◌++◌, length, true, refl, sym, ap, ◌∙◌, subst, arith}
+use Rattle.std.proofs.Common.{◌≡◌, ℕ, ◌+◌, ◌*◌, ◌/◌, ◌%◌, ◌^◌, ◌<◌, List, [], ◌∷◌, ◌++◌, length, true, refl, ap, ◌∙◌, arith}
 use Rattle.std.proofs.lemmas.Bool.{and_parts, and_from}
-use Rattle.std.proofs.lemmas.Nat.{pow_pos, pow-add, mod-mul-add, div-mul-add, div-add-mod', shr_below, mul-add-lt}
+use Rattle.std.proofs.lemmas.Nat.{pow_pos, pow-add, mod-mul-add, div-mul-add, div-add-mod', shr_below}
 use Rattle.std.proofs.Math.Nat.{mod-lt, zero-mod, zero-div}
-use Rattle.knox_words.specs.Bits.{Bits, bits}
+use Rattle.knox_words.specs.Bits.{bits}
 use Rattle.knox_words.specs.Lists.{Words, fits, fit, are_widths, zeros, total, decoded, number}
 use Rattle.knox_words.proofs.Lists.{fits-below, fits-bits, bits-value, are_widths-first, are_widths-rest}
 

@@ -1,5 +1,5 @@
 -- Lists of words: equality by test, words that fit widths, and zero words.
-use Rattle.std.proofs.Common.{◌≡◌, ℕ, zero, suc, ◌^◌, ◌<◌, ◌≤◌, ◌==◌, ◌&&◌, List, [], ◌∷◌, ◌++◌, length, take, drop, Bool, true, false, refl, sym, ap, ◌∙◌, subst, arith, eqb-true, lt-ltb, nat_eq, nat_le, nat_lt, slice_index, slice_set}
+use Rattle.std.proofs.Common.{◌≡◌, ℕ, zero, suc, ◌^◌, ◌<◌, ◌≤◌, ◌==◌, ◌&&◌, List, [], ◌∷◌, ◌++◌, length, take, drop, true, refl, sym, ap, ◌∙◌, subst, arith, eqb-true, lt-ltb, nat_le, nat_lt, slice_index, slice_set}
 use Rattle.std.specs.Cmp.{IsEquivalence}
 use Rattle.std.proofs.lemmas.Bool.{and_parts, and_from, ltb-true, leb-true, le-leb}
 use Rattle.std.proofs.lemmas.Cmp.{nat_eq_equiv, lists_equiv, on_equiv, and_equiv}
@@ -63,9 +63,11 @@ fits-IsWord w a h = is_word-IsWord a (and_parts (a.width == w) (is_word a) h).1
 pub fits-below : (w : ℕ) (a : Bits) → fits w a ≡ true → a.value < 2 ^ w
 fits-below w a h = subst (λ (k : ℕ). a.value < 2 ^ k) (fits-width w a h) (fits-IsWord w a h).fits
 
+pub fits-from : (w : ℕ) (a : Bits) → a.width ≡ w → IsWord a → fits w a ≡ true
+fits-from w a e h = and_from (a.width == w) (is_word a) (subst (λ (k : ℕ). (a.width == k) ≡ true) e (nat_eq_equiv.refl a.width)) (IsWord-is_word a h)
+
 pub fits-bits : (w n : ℕ) → 1 ≤ w → w ≤ 128 → n < 2 ^ w → fits w (bits w n) ≡ true
-fits-bits w n wide narrow below =
-    and_from (w == w) (is_word (bits w n)) (nat_eq_equiv.refl w) (IsWord-is_word (bits w n) (record { wide = wide; narrow = narrow; fits = below }))
+fits-bits w n wide narrow below = fits-from w (bits w n) refl (record { wide = wide; narrow = narrow; fits = below })
 
 -- a word that fits is that of the width and its number
 pub bits-value : (w : ℕ) (a : Bits) → fits w a ≡ true → bits w a.value ≡ a

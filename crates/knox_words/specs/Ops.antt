@@ -127,3 +127,27 @@ sext_or a n = if nat_le (a.width + n) 128 then sext_value a n else bits 1 0
 -- uext_value up to a width of 128, and else the zero word
 abbrev pub uext_or : Bits → ℕ → Bits
 uext_or a n = if nat_le (a.width + n) 128 then uext_value a n else bits 1 0
+
+-- the width of the value of an operator on a word of width w
+abbrev pub op1_width : Op1 → ℕ → ℕ
+op1_width Redand w = 1
+op1_width Redor w = 1
+op1_width Redxor w = 1
+op1_width _ w = w
+
+-- the width of the value of an operator on words of widths w and v
+abbrev pub op2_width : Op2 → ℕ → ℕ → ℕ
+op2_width op2.Iff w v = 1
+op2_width op2.Implies w v = 1
+op2_width op2.Eq w v = 1
+op2_width op2.Neq w v = 1
+op2_width op2.Ugt w v = 1
+op2_width op2.Ugte w v = 1
+op2_width op2.Ult w v = 1
+op2_width op2.Ulte w v = 1
+op2_width op2.Sgt w v = 1
+op2_width op2.Sgte w v = 1
+op2_width op2.Slt w v = 1
+op2_width op2.Slte w v = 1
+op2_width op2.Concat w v = w + v
+op2_width _ w v = w

@@ -1,6 +1,10 @@
 //! What follows of lists of words, as functions that do nothing: their contracts are the laws.
-ghost use Rattle.std.specs.Prelude.{◌≡◌, ℕ, ◌^◌, ◌<◌, ◌++◌, List, length, true};
-ghost use Rattle.knox_words.specs.Lists.{Words, are_widths, fit, same_words, zeros, total, decoded, number};
+ghost use Rattle.std.specs.Prelude.{◌≡◌, ℕ, ◌+◌, ◌^◌, ◌<◌, ◌≤◌, ◌++◌, List, length, true};
+ghost use Rattle.knox_words.specs.Bits.{Bits, IsWord};
+ghost use Rattle.knox_words.specs.declared.op.Op1.{Op1};
+ghost use Rattle.knox_words.specs.declared.op.Op2.{Op2};
+ghost use Rattle.knox_words.specs.Ops.{op1_value, op2_value, fits2_of, op1_width, op2_width, slice_value, uext_value, sext_value};
+ghost use Rattle.knox_words.specs.Lists.{Words, are_widths, fits, fit, same_words, zeros, total, decoded, number};
 
 /// Words that fit some widths are numbered: `number` is below 2 to the sum of the widths, and
 /// `decoded` takes each such number to the words that have it. So what holds of the words of every
@@ -20,4 +24,13 @@ pub fn words_fit_in_parts()
     ensures zeros { (ws : List ℕ) → are_widths ws ≡ true → fit ws (zeros ws) ≡ true }
     ensures equal { (as' bs : Words) → same_words as' bs ≡ true → as' ≡ bs }
     ensures same { (as' : Words) → same_words as' as' ≡ true }
+{}
+
+/// The value of an operator on words that it takes is a word, and its width hangs on the widths alone.
+pub fn values_are_words()
+    ensures one { (o : Op1) (w : ℕ) (a : Bits) → fits w a ≡ true → fits (op1_width o w) (op1_value o a) ≡ true }
+    ensures two { (o : Op2) (w v : ℕ) (a b : Bits) → fits2_of o w v ≡ true → fits w a ≡ true → fits v b ≡ true → fits (op2_width o w v) (op2_value o a b) ≡ true }
+    ensures slices { (a : Bits) (high low : ℕ) → low ≤ high → high < a.width → IsWord a → IsWord (slice_value a high low) }
+    ensures unsigned { (a : Bits) (n : ℕ) → a.width + n ≤ 128 → IsWord a → IsWord (uext_value a n) }
+    ensures signed { (a : Bits) (n : ℕ) → a.width + n ≤ 128 → IsWord a → IsWord (sext_value a n) }
 {}

@@ -17,7 +17,7 @@ mod widths;
 mod word;
 
 pub use apply::{and, fits2, op1, op2};
-pub use laws::{words_are_numbered, words_fit_in_parts};
+pub use laws::{values_are_words, words_are_numbered, words_fit_in_parts};
 pub use list::Words;
 pub use op::{Op1, Op2};
 pub use resize::{ite, sext, slice, uext};
