@@ -1,0 +1,172 @@
+//! A shelf and a sink in memory, whose reads and puts fail where they are told to.
+ghost use Rattle.std.specs.Prelude.{◌≡◌, [], Some, option_map, length, take};
+ghost use Rattle.knox_edge.specs.Texts.{bytes_of, named_of};
+ghost use Rattle.knox_edge.specs.Shelf.{Holding, entry_of, is_in};
+ghost use Rattle.knox_edge.specs.Sink.{Failing};
+
+use crate::history::History;
+use crate::shelf::{Shelf, ShelfEnd};
+use crate::sink::{Sink, SinkEnd};
+use std::alloc::Global;
+
+/// How many bytes a text may have.
+const LIMIT: usize = 67_108_864;
+
+/// Texts in memory. The reads whose numbers, from 1, stand in `fail` fail.
+#[derive(Drop)]
+pub struct MemShelf {
+    held: Vec<(Vec<u8>, Vec<u8>)>,
+    fail: Vec<u64>,
+    alloc: Global,
+    history: History,
+}
+
+impl MemShelf {
+    /// A shelf of these names and texts, of which nothing was asked.
+    pub fn new(alloc: Global, held: Vec<(Vec<u8>, Vec<u8>)>, fail: Vec<u64>) -> MemShelf
+        ensures names { ⟦<MemShelf as Shelf>⟧.names result ≡ [] }
+        ensures given { ⟦<MemShelf as Shelf>⟧.given result ≡ [] }
+        ensures faults { ⟦<MemShelf as Shelf>⟧.faults result ≡ 0 }
+        ensures holds { ⟦<MemShelf as Shelf>⟧.holds result ≡ Some (record { entries = named_of held.items; failing = fail.items }) }
+    {
+        MemShelf {
+            held,
+            fail,
+            alloc,
+            history: History::new(alloc),
+        }
+    }
+}
+
+/// The bytes of the first entry with this name.
+fn entry<'a>(held: &'a [(Vec<u8>, Vec<u8>)], name: &[u8]) -> Option<&'a [u8]>
+    ensures { option_map (λ bytes. bytes.now) result ≡ entry_of (named_of held.now) name.now }
+{
+    for (called, bytes) in held {
+        if called.as_slice() == name {
+            return Some(bytes.as_slice());
+        }
+    }
+    None
+}
+
+/// Whether a number is one of these.
+fn is_one_of(numbers: &[u64], number: u64) -> bool
+    ensures { result ≡ is_in numbers.now number }
+{
+    numbers.contains(&number)
+}
+
+impl Shelf for MemShelf {
+    ghost names = { λ s. s.history.names };
+
+    ghost given = { λ s. s.history.given };
+
+    ghost taken = { λ s. s.history.taken };
+
+    ghost faults = { λ s. s.history.faults };
+
+    ghost holds = { λ s. Some (record { entries = named_of s.held.items; failing = s.fail.items }) };
+
+    fn read(&mut self, name: &[u8]) -> Result<usize, ShelfEnd> {
+        self.history.ask(name)?;
+        if is_one_of(self.fail.as_slice(), self.history.asked() as u64) {
+            self.history.fail();
+            return Err(ShelfEnd::Failed);
+        }
+        let Some(bytes) = entry(self.held.as_slice(), name) else {
+            self.history.fail();
+            return Err(ShelfEnd::Failed);
+        };
+        if bytes.len() > LIMIT {
+            self.history.take(LIMIT as u64 + 1);
+            return Err(ShelfEnd::TooLong);
+        }
+        let Ok(bytes) = Vec::from_slice(self.alloc, bytes) else {
+            return Err(ShelfEnd::Memory);
+        };
+        self.history.take(bytes.len() as u64);
+        let place = self.history.give(name, bytes)?;
+        Ok(place)
+    }
+
+    fn text(&self, i: usize) -> &[u8] {
+        self.history.text(i)
+    }
+}
+
+/// A sink in memory. The puts whose numbers, from 1, stand in `fail` fail, and keep the first
+/// `keep` bytes of their piece, or all of a shorter one.
+#[derive(Drop)]
+pub struct MemSink {
+    fail: Vec<u64>,
+    keep: usize,
+    written: Vec<u8>,
+    count: u64,
+    faults: u64,
+}
+
+impl MemSink {
+    /// A sink that holds nothing and has counted no put.
+    pub fn new(alloc: Global, fail: Vec<u64>, keep: usize) -> MemSink
+        ensures written { ⟦<MemSink as Sink>⟧.written result ≡ Some [] }
+        ensures faults { ⟦<MemSink as Sink>⟧.faults result ≡ 0 }
+        ensures fails { ⟦<MemSink as Sink>⟧.fails result ≡ Some (record { numbers = fail.items; counted = 0 }) }
+        ensures keeps { ⟦<MemSink as Sink>⟧.keeps result ≡ Some keep }
+    {
+        MemSink {
+            fail,
+            keep,
+            written: Vec::new(alloc),
+            count: 0,
+            faults: 0,
+        }
+    }
+
+    /// The bytes that were written.
+    pub fn written(&self) -> &[u8]
+        ensures { ⟦<MemSink as Sink>⟧.written self.now ≡ Some result.now }
+    {
+        self.written.as_slice()
+    }
+}
+
+/// The first bytes of a piece, this many or all.
+fn first(piece: &[u8], count: usize) -> &[u8]
+    ensures { result.now ≡ take count piece.now }
+{
+    if count < piece.len() {
+        &piece[..count]
+    } else {
+        piece
+    }
+}
+
+impl Sink for MemSink {
+    ghost written = { λ s. Some s.written.items };
+
+    ghost faults = { λ s. s.faults };
+
+    ghost fails = { λ s. Some (record { numbers = s.fail.items; counted = s.count }) };
+
+    ghost keeps = { λ s. Some s.keep };
+
+    fn put(&mut self, piece: &[u8]) -> Result<(), SinkEnd> {
+        if piece.is_empty() {
+            return Ok(());
+        }
+        self.count = self.count.saturating_add(1);
+        if is_one_of(self.fail.as_slice(), self.count) {
+            let kept = first(piece, self.keep);
+            if self.written.extend_from_slice(kept).is_err() {
+                return Err(SinkEnd::Memory);
+            }
+            self.faults = self.faults.saturating_add(1);
+            return Err(SinkEnd::Failed);
+        }
+        match self.written.extend_from_slice(piece) {
+            Ok(()) => Ok(()),
+            Err(_) => Err(SinkEnd::Memory),
+        }
+    }
+}

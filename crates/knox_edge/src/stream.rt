@@ -1,0 +1,63 @@
+//! A sink over a writer of std.
+ghost use Rattle.std.specs.Prelude.{◌≡◌, ℕ, ◌<◌, length, take, None, MatchResult};
+ghost use Rattle.std.specs.Io.KnownBytes.{Appends};
+
+use crate::sink::{Sink, SinkEnd};
+use std::io::Write;
+
+/// Writes each piece to a writer, and counts the writes that fail.
+#[derive(Drop)]
+pub struct StreamSink<W: Write> {
+    writer: W,
+    faults: u64,
+}
+
+impl<W: Write> StreamSink<W> {
+    /// A sink over this writer, with no fault counted.
+    pub fn new(writer: W) -> StreamSink<W>
+        ensures written { ⟦<StreamSink<W> as Sink>⟧.written result ≡ W.contents writer }
+        ensures faults { ⟦<StreamSink<W> as Sink>⟧.faults result ≡ 0 }
+    {
+        StreamSink { writer, faults: 0 }
+    }
+}
+
+/// A writer failed, or took nothing of bytes that were left.
+#[derive(Clone, Copy, Debug, PartialEq, Eq)]
+struct Stopped;
+
+/// Writes a piece to its end. A writer that stops before has taken a prefix.
+fn write_whole<W: Write>(writer: &mut W, piece: &[u8]) -> Result<(), Stopped>
+    ensures { MatchResult result
+        (λ _. Appends (W.contents writer.old) (W.contents writer.new) piece.now)
+        (λ _. (n : ℕ) × (n < length piece.now) × Appends (W.contents writer.old) (W.contents writer.new) (take n piece.now)) }
+{
+    let mut at = 0;
+    while at < piece.len() {
+        match writer.write(&piece[at..]) {
+            Ok(0) | Err(_) => return Err(Stopped),
+            Ok(count) => at += count,
+        }
+    }
+    Ok(())
+}
+
+impl<W: Write> Sink for StreamSink<W> {
+    ghost written = { λ s. W.contents s.writer };
+
+    ghost faults = { λ s. s.faults };
+
+    ghost fails = { λ _. None };
+
+    ghost keeps = { λ _. None };
+
+    fn put(&mut self, piece: &[u8]) -> Result<(), SinkEnd> {
+        match write_whole(&mut self.writer, piece) {
+            Ok(()) => Ok(()),
+            Err(Stopped) => {
+                self.faults = self.faults.saturating_add(1);
+                Err(SinkEnd::Failed)
+            }
+        }
+    }
+}
