@@ -21,5 +21,5 @@ Consumes-append (Some a) (Some b) (Some c) xs ys p q = p ∙ ap (λ z. xs ++ z) 
 -- the first n bytes past a place follow those before it
 pub next_bytes : (xs : List ℕ) (at n : ℕ) → at ≤ length xs → take (at + n) xs ≡ take at xs ++ take n (take (length xs - at) (drop at xs))
 next_bytes xs at n h =
-  let whole : take (length xs - at) (drop at xs) ≡ drop at xs = grind (arith, common_steps) in
-  take-add at n xs ∙ ap (λ z. take at xs ++ take n z) (sym whole)
+    let whole : take (length xs - at) (drop at xs) ≡ drop at xs = grind (arith, common_steps) in
+    take-add at n xs ∙ ap (λ z. take at xs ++ take n z) (sym whole)

@@ -40,7 +40,7 @@ AnswersAs told name (Err end) old new = told ≡ Err end
 -- one that is refused leaves what was given
 abbrev pub Gives : Bytes → Result ℕ ShelfEnd → ℕ → List Named → List Named → Type 0
 Gives name (Ok place) taken old new =
-  (bytes : Bytes) × (new ≡ old ++ (name, bytes) ∷ []) × (place ≡ length old) × (taken ≡ length bytes) × (taken ≤ limit)
+    (bytes : Bytes) × (new ≡ old ++ (name, bytes) ∷ []) × (place ≡ length old) × (taken ≡ length bytes) × (taken ≤ limit)
 Gives name (Err end) taken old new = new ≡ old
 
 -- the name joins those that were asked; want of memory may leave it out

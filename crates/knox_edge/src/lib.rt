@@ -8,6 +8,8 @@ mod memory;
 mod shelf;
 mod sink;
 mod stream;
+#[cfg(test)]
+mod tests;
 
 pub use files::FileShelf;
 pub use memory::{MemShelf, MemSink};
