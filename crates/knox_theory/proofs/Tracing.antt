@@ -7,22 +7,22 @@ use Rattle.knox_theory.specs.declared.event.Event.{Event}
 use Rattle.knox_theory.specs.declared.event.Event.TheVariants.{Read, Tick}
 use Rattle.knox_theory.specs.Design.{Design, go}
 use Rattle.knox_theory.specs.Script.{Cut, Havoc, Invariant, Label, Place, Replace, Script, Split, State, Step, Subsume, WireItems}
-use Rattle.knox_theory.specs.Course.{Assume, Check, Course, Drove, Entered, Failed, Note, run, Short, Take, takes, Tell, Ticking, told, Turned}
+use Rattle.knox_theory.specs.Course.{Assume, Check, Course, Done, Drove, Entered, Failed, Note, run, Short, Take, takes, Tell, Ticking, told, Turned}
 use Rattle.knox_theory.specs.WireSegments.{course, cut_course, enters, forks, noted, steps, subsumes, ticked, wire_course}
 use Rattle.knox_theory.specs.Segments.{boot_host_segment, call_segment, cut_segment, rest_segment, Segment, segments, wait_segment, wire_segment}
 use Rattle.knox_theory.specs.Closed.{IsAmong}
-use Rattle.knox_theory.specs.Traces.{are_in_range, events_of, FitsTrace, HasZeros, is_in_range, noise_of, sets, shown, trace_of}
+use Rattle.knox_theory.specs.Traces.{branch_word, drove, is_of_call, are_in_range, events_of, FitsTrace, HasZeros, is_in_range, noise_of, sets, shown, trace_of}
 use Rattle.knox_theory.proofs.Listed.{each-segment}
 use Rattle.knox_theory.proofs.Basics.{and-left, and-right, and-both}
 
 module _ {P : Type 0} (d : Design P) where
-  -- the inputs of every tick that is told fit
+  -- the inputs of every tick that is told fit, and no driver's tests are told
   abbrev pub fits_notes : List Note → Bool
   fits_notes [] = true
   fits_notes (Ticking i ∷ ns) = fit d.device.ins i && fits_notes ns
   fits_notes (Entered ∷ ns) = fits_notes ns
   fits_notes (Turned b ∷ ns) = fits_notes ns
-  fits_notes (Drove bs ∷ ns) = fits_notes ns
+  fits_notes (Drove bs ∷ ns) = false
 
   events-append : (as' bs : List Event) → are_in_range d.device as' ≡ true → are_in_range d.device bs ≡ true → are_in_range d.device (as' ++ bs) ≡ true
   events-append [] bs p q = q
@@ -49,7 +49,7 @@ module _ {P : Type 0} (d : Design P) where
       events-append d (sets 0 i) _ (sets-fit 0 i (omega arith)) (shown-fit ns (and-right (fit d.device.ins i) (fits_notes d ns) f))
   shown-fit (Entered ∷ ns) f = shown-fit ns f
   shown-fit (Turned b ∷ ns) f = shown-fit ns f
-  shown-fit (Drove bs ∷ ns) f = shown-fit ns f
+  shown-fit (Drove bs ∷ ns) f = cc
 
   -- what a course tells fits, whatever the choices
   pub record Tells (t : Course) : Type 0 where
@@ -158,3 +158,35 @@ module _ {P : Type 0} (d : Design P) (s : Script P) (zero_fits : HasZeros d.devi
         call = λ host o lt. zero-noise (call_segment d host o) (λ cs. refl) (λ cs. and-both (nat_lt o d.device.ops) true (lt-ltb o d.device.ops lt) refl);
       })
       g among).fit
+
+drove-none : {P : Type 0} (d : Design P) (ns : List Note) → fits_notes d ns ≡ true → drove ns ≡ []
+drove-none d [] f = refl
+drove-none d (Ticking i ∷ ns) f = drove-none d ns (and-right (fit d.device.ins i) (fits_notes d ns) f)
+drove-none d (Entered ∷ ns) f = drove-none d ns f
+drove-none d (Turned b ∷ ns) f = drove-none d ns f
+drove-none d (Drove bs ∷ ns) f = cc
+
+module _ {P : Type 0} (d : Design P) (s : Script P) where
+  record Undriven (g : Segment) : Type 0 where
+    tells : is_of_call g.kind ≡ false → Tells d g.course
+
+  check-ends : (ok : Bool) (h : ℕ) → Tells d (Check ok h Done)
+  check-ends ok h = check-tells d ok h Done (record { fit = λ cs. refl })
+
+  -- a run of a segment that isn't of a call meets no tests of the driver
+  pub undriven : (g : Segment) → IsAmong g (segments d s) → is_of_call g.kind ≡ false → (cs : Words) → branch_word g.course cs ≡ []
+  undriven g among not cs =
+      drove-none d (told g.course cs)
+      (((each-segment d s Undriven
+      (record {
+        wire = record { tells = λ k. wire-tells d s (subsumes d s) };
+        cut = λ m h c rest. record { tells = λ k. cut-tells d s (subsumes d s) c rest };
+        factory = λ host. record { tells = λ k. takes-tell d d.device.factory_noise _ (λ n e. check-ends _ _) };
+        boot_host = λ host. record {
+          tells = λ k. takes-tell d d.fields _ (λ f e. takes-tell d d.persistent.widths _ (λ x e. takes-tell d d.device.noise _ (λ n e. takes-tell d d.kept _ (λ m e. enters-tells d _ _ (check-ends _ _)))));
+        };
+        rest = λ host. record { tells = λ k. takes-tell d d.fields _ (λ f e. takes-tell d d.cells.widths _ (λ x e. takes-tell d d.kept _ (λ m e. enters-tells d _ _ (check-ends _ _)))) };
+        wait = λ host. record { tells = λ k. takes-tell d d.fields _ (λ f e. takes-tell d d.cells.widths _ (λ x e. takes-tell d d.kept _ (λ m e. enters-tells d _ _ (check-ends _ _)))) };
+        call = λ host o lt. record { tells = λ k. cc };
+      })
+      g among).tells not).fit cs)

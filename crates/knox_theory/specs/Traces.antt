@@ -87,6 +87,14 @@ has_entered (Ticking i ∷ ns) = has_entered ns
 abbrev pub enters_root : Course → (choices : Words) → Bool
 enters_root t cs = has_entered (told t cs)
 
+abbrev pub is_of_factory : Kind → Bool
+is_of_factory OfFactory = true
+is_of_factory kind = false
+
+abbrev pub is_of_call : Kind → Bool
+is_of_call (OfCall o) = true
+is_of_call kind = false
+
 -- An event is in range where its operation and its input are there. It may be malformed in all else.
 abbrev pub is_in_range : Device → Event → Bool
 is_in_range d (PowerHost noise) = true

@@ -1,6 +1,5 @@
 //! The theorems on scripts. Each is the contract of a function with an empty body.
-ghost use Rattle.std.specs.Prelude.{◌≡◌, ℕ, Some, None, List, [], ◌∷◌, ◌++◌, ◌<◌, ◌^◌, true, false};
-ghost use Rattle.knox_words.specs.Bits.{bits};
+ghost use Rattle.std.specs.Prelude.{◌≡◌, ℕ, Some, List, [], ◌++◌, true, false};
 ghost use Rattle.knox_words.specs.Lists.{Words};
 ghost use Rattle.knox_theory.specs.declared.event.Event.{Event};
 ghost use Rattle.knox_theory.specs.Device.{Asking, answered};
@@ -12,8 +11,7 @@ ghost use Rattle.knox_theory.specs.Script.{HostSections, IsScript, Script};
 ghost use Rattle.knox_theory.specs.Course.{Course, Failed, run, told, used};
 ghost use Rattle.knox_theory.specs.Segments.{Segment, is_ordered, segments};
 ghost use Rattle.knox_theory.specs.Closed.{Closed, Falsifies, IsAmong, StartsRefined, all_differ, all_hints, is_hint_of, segment_of};
-ghost use Rattle.knox_theory.specs.Numbered.{Covered, Within, all_tried};
-ghost use Rattle.knox_theory.specs.Traces.{FitsTrace, HasZeros, are_in_range, trace_of};
+ghost use Rattle.knox_theory.specs.Traces.{FitsTrace, HasZeros, are_in_range, branch_word, enters_root, is_of_call, is_of_factory, trace_of};
 
 /// A script with sections for the host, none of whose hints is falsified, implies that the two worlds agree, whatever the factory noise, on every list
 /// of events.
@@ -41,10 +39,11 @@ pub fn stops_meet_the_same_tests<P>()
     ensures { (d : Design P) → IsDriver d → (o ticks : ℕ) (c : Config P) → d.fits_config o c ≡ true → go_tests d ticks c ++ finish_tests d (go d ticks c) ≡ finish_tests d c }
 {}
 
-/// The choices that a run takes give the same run.
+/// The choices that a run takes are the front of all choices, and give the same run.
 pub fn used_choices_suffice()
     ensures run { (t : Course) (cs : Words) → run t (used t cs) ≡ run t cs }
     ensures told { (t : Course) (cs : Words) → told t (used t cs) ≡ told t cs }
+    ensures front { (t : Course) (cs : Words) → (more : Words) × (used t cs ++ more ≡ cs) }
 {}
 
 /// The segments are in order of their hint numbers.
@@ -57,27 +56,23 @@ pub fn runs_fail_at_own_hints<P>()
     ensures { (d : Design P) (s : Script P) (g : Segment) → IsAmong g (segments d s) → (h : ℕ) (cs : Words) → run g.course cs ≡ Failed h → is_hint_of h g.hints ≡ true }
 {}
 
-/// Where all hints differ, the segment of a falsified hint is the one whose run fails at it.
+/// Where all hints differ, choices falsify a hint exactly where the run of that hint's segment over them fails at it.
 pub fn hints_name_their_segments<P>()
-    ensures { (d : Design P) (s : Script P) → all_differ (all_hints (segments d s)) ≡ true → (h : ℕ) (cs : Words) (f : Falsifies d s h cs) → segment_of h (segments d s) ≡ Some f.segment }
-{}
-
-/// No path of a segment takes more bits than its number of choice bits.
-pub fn choice_bits_bound<P>()
-    ensures { (d : Design P) (s : Script P) (g : Segment) → IsAmong g (segments d s) → Within g.course g.choice_bits }
-{}
-
-/// A script whose segments are tried at every number is closed.
-pub fn trying_all_closes<P>()
-    ensures { (d : Design P) (s : Script P) → all_tried (segments d s) ≡ true → Closed d s }
-{}
-
-/// Some choices falsify a hint only if those with a number of b bits do, where no path takes more than b bits.
-pub fn numbers_cover_choices()
-    ensures { (t : Course) (b : ℕ) → Within t b → (h : ℕ) (cs : Words) → run t cs ≡ Failed h → Covered t b h }
+    ensures named { (d : Design P) (s : Script P) → all_differ (all_hints (segments d s)) ≡ true → (h : ℕ) (cs : Words) (f : Falsifies d s h cs) → segment_of h (segments d s) ≡ Some f.segment }
+    ensures listed { (d : Design P) (s : Script P) (h : ℕ) (cs : Words) (g : Segment) → segment_of h (segments d s) ≡ Some g → run g.course cs ≡ Failed h → Falsifies d s h cs }
 {}
 
 /// The trace of choices that falsify a hint fits the device.
 pub fn traces_fit<P>()
     ensures { (d : Design P) (s : Script P) (before after : List Event) (g : Segment) (cs : Words) (h : ℕ) → HasZeros d.device → are_in_range d.device before ≡ true → are_in_range d.device after ≡ true → IsAmong g (segments d s) → run g.course cs ≡ Failed h → FitsTrace d.device (trace_of d before after g cs) }
+{}
+
+/// A run that fails has passed the condition at its segment's root, but in `factory`, which has none.
+pub fn failed_runs_enter<P>()
+    ensures { (d : Design P) (s : Script P) (g : Segment) → IsAmong g (segments d s) → is_of_factory g.kind ≡ false → (h : ℕ) (cs : Words) → run g.course cs ≡ Failed h → enters_root g.course cs ≡ true }
+{}
+
+/// The driver's tests are met in the segments of calls alone.
+pub fn calls_alone_branch<P>()
+    ensures { (d : Design P) (s : Script P) (g : Segment) → IsAmong g (segments d s) → is_of_call g.kind ≡ false → (cs : Words) → branch_word g.course cs ≡ [] }
 {}
