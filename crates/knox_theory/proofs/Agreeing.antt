@@ -3,6 +3,7 @@ use Rattle.std.proofs.Common.{◌≡◌, ℕ, ◌<◌, nat_lt, Some, List, [], �
 use Rattle.std.proofs.lemmas.Bool.{ltb-true}
 use Rattle.knox_words.specs.Bits.{Bits}
 use Rattle.knox_words.specs.Lists.{fit, Words}
+use Rattle.knox_words.proofs.Lists.{same_word-true, same_words-true}
 use Rattle.knox_theory.specs.declared.event.Event.{Event}
 use Rattle.knox_theory.specs.declared.event.Event.TheVariants.{Call, PowerHost, PowerWire, Read, Set, Tick}
 use Rattle.knox_theory.specs.declared.event.Answer.{Answer}
@@ -17,7 +18,7 @@ use Rattle.knox_theory.specs.Course.{Safe}
 use Rattle.knox_theory.specs.WireSegments.{attached, course, enters, is_refined, subsumes, ticked}
 use Rattle.knox_theory.specs.HostSegments.{is_reply}
 use Rattle.knox_theory.specs.Closed.{StartsRefined}
-use Rattle.knox_theory.proofs.Basics.{and-left, and-right, same_word-equal, same-equal, set-fit}
+use Rattle.knox_theory.proofs.Basics.{and-left, and-right, set-fit}
 use Rattle.knox_theory.proofs.Asking.{answered-fits}
 use Rattle.knox_theory.proofs.Listed.{SafeHost, SafeWires}
 use Rattle.knox_theory.proofs.Safety.{check-holds, check-goes, enters-goes, takes-go, tell-goes}
@@ -85,7 +86,7 @@ module _ {P : Type 0} (d : Design P) (s : Script P) (good : IsWireDesign d) (scr
 
   -- the outputs before a tick, and the state after it
   wire-outs : (i : Words) (st : State) → InWire d s i st → d.device.outs st.cells i ≡ d.device.emu_outs st.emu st.copy i
-  wire-outs i st l = same-equal _ _ (check-holds (tell-goes (takes-go d.device.ins _ l.standing.safe i l.ins)))
+  wire-outs i st l = same_words-true _ _ (check-holds (tell-goes (takes-go d.device.ins _ l.standing.safe i l.ins)))
 
   wire-tick : (i : Words) (st : State) → InWire d s i st → InWire d s i (ticked d st i)
   wire-tick i st l =
@@ -187,7 +188,7 @@ module _ {P : Type 0} (d : Design P) (s : Script P) (good : IsWireDesign d) (scr
 
 -- In Host.
 reply-value : (r : Reply) (w : Bits) → is_reply r w ≡ true → answer_of r ≡ Value w
-reply-value (Replied v) w e = ap (λ z. Value z) (same_word-equal v w e)
+reply-value (Replied v) w e = ap (λ z. Value z) (same_word-true v w e)
 reply-value OutOfTurns w e = cc
 
 module _ {P : Type 0} (d : Design P) (s : Script P) (host : HostSections P) where

@@ -1,18 +1,11 @@
 -- The numbers below 2 ^ b cover all choices of a course whose widest path has b bits.
-use Rattle.std.proofs.Common.{◌≡◌, ℕ, ◌+◌, ◌-◌, ◌*◌, ◌/◌, ◌%◌, ◌^◌, ◌<◌, ◌≤◌, ◌==◌, [], ◌∷◌, Bool, true, false, refl, ap, sym, ◌∙◌, arith, eqb-true, if◌then◌else◌}
+use Rattle.std.proofs.Common.{◌≡◌, ℕ, ◌+◌, ◌-◌, ◌*◌, ◌/◌, ◌%◌, ◌^◌, ◌<◌, ◌≤◌, [], ◌∷◌, Bool, true, false, refl, ap, sym, ◌∙◌, arith, if◌then◌else◌}
 use Rattle.std.proofs.lemmas.Nat.{pow-add, mod-mul-add, div-mul-add, pow_pos}
-use Rattle.std.proofs.lemmas.Bool.{ltb-true}
-use Rattle.knox_words.specs.Bits.{Bits, bits, is_word}
+use Rattle.knox_words.specs.Bits.{Bits, bits}
 use Rattle.knox_words.specs.Lists.{fits, Words}
+use Rattle.knox_words.proofs.Lists.{bits-value, fits-below}
 use Rattle.knox_theory.specs.Course.{Assume, Check, Course, Done, Failed, Mark, run, Short, Take, Tell}
 use Rattle.knox_theory.specs.Numbered.{choices_at, Covered, Within}
-use Rattle.knox_theory.proofs.Basics.{and-left, and-right}
-
-pub value-below : (w : ℕ) (a : Bits) → fits w a ≡ true → a.value < 2 ^ w
-value-below w a h =
-    let same : a.width ≡ w = eqb-true a.width w (and-left (a.width == w) (is_word a) h) in
-    let below : a.value < 2 ^ a.width = ltb-true _ _ (and-right _ _ (and-right (a.width == w) (is_word a) h)) in
-    rw same at below
 
 -- a word in front of a number of b - w bits
 product_below : (x m y n : ℕ) → x < m → y < n → x * n + y < m * n
@@ -22,12 +15,11 @@ joined : (w b : ℕ) (a : Bits) (k : ℕ) → w ≤ b → fits w a ≡ true → 
 joined w b a k le f lt =
     let whole : w + (b - w) ≡ b = omega arith in
     let split : 2 ^ b ≡ 2 ^ w * 2 ^ (b - w) = ap (λ z. 2 ^ z) (sym whole) ∙ pow-add 2 w (b - w) in
-    rw split (product_below a.value (2 ^ w) k (2 ^ (b - w)) (value-below w a f) lt)
+    rw split (product_below a.value (2 ^ w) k (2 ^ (b - w)) (fits-below w a f) lt)
 
 first : (w b : ℕ) (a : Bits) (k : ℕ) → fits w a ≡ true → k < 2 ^ (b - w) → bits w ((a.value * 2 ^ (b - w) + k) / 2 ^ (b - w)) ≡ a
 first w b a k f lt =
-    let same : a.width ≡ w = eqb-true a.width w (and-left (a.width == w) (is_word a) f) in
-    ap (λ z. bits w z) (div-mul-add a.value (2 ^ (b - w)) k lt) ∙ ap (λ z. bits z a.value) (sym same)
+    ap (λ z. bits w z) (div-mul-add a.value (2 ^ (b - w)) k lt) ∙ bits-value w a f
 
 record First (w : ℕ) (rest : Bits → Course) (c : Bits) (cs : Words) (h : ℕ) : Type 0 where
   fitting : fits w c ≡ true

@@ -1,11 +1,10 @@
 -- A search word by word covers all choices.
-use Rattle.std.proofs.Common.{◌≡◌, ℕ, ◌^◌, ◌<◌, ◌==◌, Some, None, [], ◌∷◌, ◌++◌, append-nil, append_assoc, Bool, true, false, refl, ap, sym, ◌∙◌, eqb-true, if◌then◌else◌}
-use Rattle.knox_words.specs.Bits.{Bits, bits, is_word}
+use Rattle.std.proofs.Common.{◌≡◌, ℕ, ◌^◌, ◌<◌, Some, None, [], ◌∷◌, ◌++◌, append-nil, append_assoc, Bool, true, false, refl, ap, sym, ◌∙◌, if◌then◌else◌}
+use Rattle.knox_words.specs.Bits.{Bits, bits}
 use Rattle.knox_words.specs.Lists.{fits, Words}
+use Rattle.knox_words.proofs.Lists.{bits-value, fits-below}
 use Rattle.knox_theory.specs.Course.{Assume, Check, Course, Done, End, Failed, Mark, run, Safe, Short, Take, Tell}
 use Rattle.knox_theory.specs.Searched.{SafeFrom, wants}
-use Rattle.knox_theory.proofs.Basics.{and-left}
-use Rattle.knox_theory.proofs.Covering.{value-below}
 
 choose-end : (b : Bool) (x y x' y' : End) → (b ≡ true → x' ≡ x) → y' ≡ y → (if b then x' else y') ≡ (if b then x else y)
 choose-end true x y x' y' p q = p refl
@@ -69,10 +68,9 @@ branch t front w e all = record { never = λ h cs p. by_choices h cs p }
   where
     fitting : (h : ℕ) (c : Bits) (cs : Words) (b : Bool) → fits w c ≡ b → run t (front ++ c ∷ cs) ≡ Failed h → ⊥
     fitting h c cs true f p =
-        let width : c.width ≡ w = eqb-true c.width w (and-left (c.width == w) (is_word c) f) in
-        let same : bits w c.value ≡ c = ap (λ k. bits k c.value) (sym width) in
+        let same : bits w c.value ≡ c = bits-value w c f in
         let there : run t ((front ++ bits w c.value ∷ []) ++ cs) ≡ Failed h = rw same (ap (λ z. run t z) (append_assoc front (c ∷ []) cs) ∙ p) in
-        (all c.value (value-below w c f)).never h cs there
+        (all c.value (fits-below w c f)).never h cs there
     fitting h c cs false f p = let no : Short ≡ Failed h = sym (refused t front w e c cs f) ∙ p in cc
 
     by_choices : (h : ℕ) (cs : Words) → run t (front ++ cs) ≡ Failed h → ⊥

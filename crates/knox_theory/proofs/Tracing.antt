@@ -1,8 +1,9 @@
 -- The trace of choices that falsify a hint fits the device.
-use Rattle.std.proofs.Common.{◌≡◌, ℕ, zero, suc, ◌+◌, ◌≤◌, nat_lt, ◌&&◌, List, [], ◌∷◌, ◌++◌, length, take, replicate, Bool, true, false, refl, ap, sym, subst, arith, if◌then◌else◌}
+use Rattle.std.proofs.Common.{◌≡◌, ℕ, zero, suc, ◌+◌, ◌≤◌, nat_lt, ◌&&◌, List, [], ◌∷◌, ◌++◌, length, take, replicate, Bool, true, false, refl, sym, subst, arith, if◌then◌else◌}
 use Rattle.std.proofs.lemmas.Bool.{lt-ltb}
 use Rattle.knox_words.specs.Bits.{Bits}
-use Rattle.knox_words.specs.Lists.{fit, fits, Words, zeros}
+use Rattle.knox_words.specs.Lists.{are_widths, fit, fits, Words, zeros}
+use Rattle.knox_words.proofs.Lists.{fit-zeros, length-fit}
 use Rattle.knox_theory.specs.declared.event.Event.{Event}
 use Rattle.knox_theory.specs.declared.event.Event.TheVariants.{Read, Tick}
 use Rattle.knox_theory.specs.Design.{Design, go}
@@ -11,7 +12,7 @@ use Rattle.knox_theory.specs.Course.{Assume, Check, Course, Done, Drove, Entered
 use Rattle.knox_theory.specs.WireSegments.{course, cut_course, enters, forks, noted, steps, subsumes, ticked, wire_course}
 use Rattle.knox_theory.specs.Segments.{boot_host_segment, call_segment, cut_segment, rest_segment, Segment, segments, wait_segment, wire_segment}
 use Rattle.knox_theory.specs.Closed.{IsAmong}
-use Rattle.knox_theory.specs.Traces.{branch_word, drove, is_of_call, are_in_range, events_of, FitsTrace, HasZeros, is_in_range, noise_of, sets, shown, trace_of}
+use Rattle.knox_theory.specs.Traces.{branch_word, drove, is_of_call, are_in_range, events_of, FitsTrace, is_in_range, noise_of, sets, shown, trace_of}
 use Rattle.knox_theory.proofs.Listed.{each-segment}
 use Rattle.knox_theory.proofs.Basics.{and-left, and-right, and-both}
 
@@ -29,12 +30,6 @@ module _ {P : Type 0} (d : Design P) where
   events-append (a ∷ as') bs p q =
       and-both (is_in_range d.device a) _ (and-left (is_in_range d.device a) (are_in_range d.device as') p) (events-append as' bs (and-right (is_in_range d.device a) (are_in_range d.device as') p) q)
 
-fit-length : (ws : List ℕ) (is : Words) → fit ws is ≡ true → length is ≡ length ws
-fit-length [] [] f = refl
-fit-length [] (i ∷ is) f = cc
-fit-length (w ∷ ws) [] f = cc
-fit-length (w ∷ ws) (i ∷ is) f = ap suc (fit-length ws is (and-right (fits w i) (fit ws is) f))
-
 module _ {P : Type 0} (d : Design P) where
   sets-fit : (k : ℕ) (is : Words) → k + length is ≤ length d.device.ins → are_in_range d.device (sets k is) ≡ true
   sets-fit k [] le = refl
@@ -45,7 +40,7 @@ module _ {P : Type 0} (d : Design P) where
   pub shown-fit : (ns : List Note) → fits_notes d ns ≡ true → are_in_range d.device (shown ns) ≡ true
   shown-fit [] f = refl
   shown-fit (Ticking i ∷ ns) f =
-      let same : length i ≡ length d.device.ins = fit-length d.device.ins i (and-left (fit d.device.ins i) (fits_notes d ns) f) in
+      let same : length i ≡ length d.device.ins = length-fit d.device.ins i (and-left (fit d.device.ins i) (fits_notes d ns) f) in
       events-append d (sets 0 i) _ (sets-fit 0 i (omega arith)) (shown-fit ns (and-right (fit d.device.ins i) (fits_notes d ns) f))
   shown-fit (Entered ∷ ns) f = shown-fit ns f
   shown-fit (Turned b ∷ ns) f = shown-fit ns f
@@ -122,7 +117,7 @@ fronted (w ∷ ws) rest (c ∷ cs) h e = by_test (fits w c) refl e (λ p. fronte
     by_test true f p go = and-both (fits w c) (fit ws (take (length ws) cs)) f (go p)
     by_test false f p go = cc
 
-module _ {P : Type 0} (d : Design P) (s : Script P) (zero_fits : HasZeros d.device) where
+module _ {P : Type 0} (d : Design P) (s : Script P) (widths : are_widths d.device.factory_noise ≡ true) where
   ticks-fit : (n : ℕ) (evs : List Event) → are_in_range d.device evs ≡ true → are_in_range d.device (replicate n Tick ++ evs) ≡ true
   ticks-fit zero evs f = f
   ticks-fit (suc n) evs f = ticks-fit n evs f
@@ -138,7 +133,7 @@ module _ {P : Type 0} (d : Design P) (s : Script P) (zero_fits : HasZeros d.devi
   zero-noise : (g : Segment) → ((cs : Words) → noise_of d.device g.kind cs ≡ zeros d.device.factory_noise) → ((cs : Words) → are_in_range d.device (events_of d g.kind g.course cs) ≡ true) → TraceFits g
   zero-noise g zero_noise in_range = record {
     fit = λ before after fb fa cs h e. record {
-      noise = subst (λ z. fit d.device.factory_noise z ≡ true) (sym (zero_noise cs)) zero_fits.factory;
+      noise = subst (λ z. fit d.device.factory_noise z ≡ true) (sym (zero_noise cs)) (fit-zeros d.device.factory_noise widths);
       events = events-append d before _ fb (events-append d (events_of d g.kind g.course cs) after (in_range cs) fa);
     };
   }

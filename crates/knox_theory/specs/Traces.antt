@@ -112,7 +112,3 @@ are_in_range d (event ∷ events) = is_in_range d event && are_in_range d events
 pub record FitsTrace (d : Device) (t : Trace) : Type 0 where
   pub noise : fit d.factory_noise t.factory ≡ true
   pub events : are_in_range d t.events ≡ true
-
--- zero words fit the factory noise
-pub record HasZeros (d : Device) : Type 0 where
-  pub factory : fit d.factory_noise (zeros d.factory_noise) ≡ true

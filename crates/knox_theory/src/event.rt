@@ -3,7 +3,7 @@ use knox_words::{Word, Words};
 use sqlite_items::Items;
 
 /// What happens to a device, one at a time. An operation, and an input, goes by its number.
-#[derive(Debug, Drop)]
+#[derive(Debug, Drop, PartialEq, Eq)]
 pub enum Event {
     /// A power-cycle with these words of noise, behind which the trusted host is attached.
     PowerHost(Words),
@@ -20,7 +20,7 @@ pub enum Event {
 }
 
 /// What a device answers to an event.
-#[derive(Debug, Drop)]
+#[derive(Debug, Drop, PartialEq, Eq)]
 pub enum Answer {
     /// The event was done and shows nothing.
     Nothing,

@@ -1,6 +1,6 @@
 //! The theorems on scripts. Each is the contract of a function with an empty body.
 ghost use Rattle.std.specs.Prelude.{◌≡◌, ℕ, Some, List, [], ◌++◌, true, false};
-ghost use Rattle.knox_words.specs.Lists.{Words};
+ghost use Rattle.knox_words.specs.Lists.{Words, are_widths};
 ghost use Rattle.knox_theory.specs.declared.event.Event.{Event};
 ghost use Rattle.knox_theory.specs.Device.{Asking, answered};
 ghost use Rattle.knox_theory.specs.Agreement.{Agree, AgreeOnWires};
@@ -11,7 +11,7 @@ ghost use Rattle.knox_theory.specs.Script.{HostSections, IsScript, Script};
 ghost use Rattle.knox_theory.specs.Course.{Course, Failed, run, told, used};
 ghost use Rattle.knox_theory.specs.Segments.{Segment, is_ordered, segments};
 ghost use Rattle.knox_theory.specs.Closed.{Closed, Falsifies, IsAmong, StartsRefined, all_differ, all_hints, is_hint_of, segment_of};
-ghost use Rattle.knox_theory.specs.Traces.{FitsTrace, HasZeros, are_in_range, branch_word, enters_root, is_of_call, is_of_factory, trace_of};
+ghost use Rattle.knox_theory.specs.Traces.{FitsTrace, are_in_range, branch_word, enters_root, is_of_call, is_of_factory, trace_of};
 
 /// A script with sections for the host, none of whose hints is falsified, implies that the two worlds agree, whatever the factory noise, on every list
 /// of events.
@@ -64,7 +64,7 @@ pub fn hints_name_their_segments<P>()
 
 /// The trace of choices that falsify a hint fits the device.
 pub fn traces_fit<P>()
-    ensures { (d : Design P) (s : Script P) (before after : List Event) (g : Segment) (cs : Words) (h : ℕ) → HasZeros d.device → are_in_range d.device before ≡ true → are_in_range d.device after ≡ true → IsAmong g (segments d s) → run g.course cs ≡ Failed h → FitsTrace d.device (trace_of d before after g cs) }
+    ensures { (d : Design P) (s : Script P) (before after : List Event) (g : Segment) (cs : Words) (h : ℕ) → are_widths d.device.factory_noise ≡ true → are_in_range d.device before ≡ true → are_in_range d.device after ≡ true → IsAmong g (segments d s) → run g.course cs ≡ Failed h → FitsTrace d.device (trace_of d before after g cs) }
 {}
 
 /// A run that fails has passed the condition at its segment's root, but in `factory`, which has none.
