@@ -5,6 +5,7 @@ use Rattle.std.specs.List.{list_all}
 use Rattle.std.specs.Cmp.Lexicographic.{pointwise}
 use Rattle.knox_words.specs.Bits.{Bits, bits, is_word, word_or}
 
+-- a list of words
 abbrev pub Words : Type 0
 Words = List Bits
 

@@ -1,4 +1,5 @@
-//! What follows of lists of words, as functions that do nothing: their contracts are the laws.
+//! What follows of the definitions of operators and of lists of words, as functions that do nothing:
+//! their contracts are the laws.
 ghost use Rattle.std.specs.Prelude.{◌≡◌, ℕ, ◌+◌, ◌^◌, ◌<◌, ◌≤◌, ◌++◌, List, length, true};
 ghost use Rattle.knox_words.specs.Bits.{Bits, IsWord};
 ghost use Rattle.knox_words.specs.declared.op.Op1.{Op1};
