@@ -3,3 +3,4 @@ pub mod Eval
 pub mod Weight
 pub mod Exec
 pub mod Operation
+pub mod Typing
