@@ -1,3 +1,4 @@
 pub mod CallLemmas
 pub mod FitLemmas
 pub mod WidthLemmas
+pub mod StmtLemmas

@@ -111,7 +111,7 @@ ite-has (Some u) (Some x) (Some y) c a b g h v e =
 
 -- named words
 
-get-some : (ws : List ℕ) (k v : ℕ) → slice_get ws k ≡ Some v → (k < length ws) × (slice_index ws k ≡ v)
+pub get-some : (ws : List ℕ) (k v : ℕ) → slice_get ws k ≡ Some v → (k < length ws) × (slice_index ws k ≡ v)
 get-some [] k v e = cc
 get-some (w ∷ ws) zero v e = let is : w ≡ v = cc in (omega arith, is)
 get-some (w ∷ ws) (suc k) v e = let r = get-some ws k v e in (omega arith, r.1)
@@ -177,7 +177,7 @@ guarded false o v e = cc
 
 -- arguments
 
-same-parts : (w : ℕ) (ws : List ℕ) (o : Option ℕ) (os : List (Option ℕ)) → same_widths (w ∷ ws) (o ∷ os) ≡ true → (o ≡ Some w) × (same_widths ws os ≡ true)
+pub same-parts : (w : ℕ) (ws : List ℕ) (o : Option ℕ) (os : List (Option ℕ)) → same_widths (w ∷ ws) (o ∷ os) ≡ true → (o ≡ Some w) × (same_widths ws os ≡ true)
 same-parts w ws None os h = cc
 same-parts w ws (Some v) os h =
     (ap (λ (k : ℕ). Some k) (sym (eqb-true w v (and_first (w == v) (same_widths ws os) h))), and_second (w == v) (same_widths ws os) h)

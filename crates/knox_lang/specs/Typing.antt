@@ -20,6 +20,7 @@ use Rattle.knox_lang.specs.declared.parts.OpHead.{OpHead}
 use Rattle.knox_lang.specs.declared.scope.Spaces.{Spaces}
 use Rattle.knox_lang.specs.Scope.{words_of}
 use Rattle.knox_lang.specs.Eval.{calls_of}
+use Rattle.knox_lang.specs.Exec.{Answering}
 
 -- the widths of the words of each space but `Bound`
 abbrev pub Widths : Type 0
@@ -204,3 +205,13 @@ SpacesFit ws sp = (s : Space) → fit (ws s) (words_of sp s) ≡ true
 -- the first n functions give words of their widths for arguments of their widths
 abbrev pub FunsGive : List Fun → ℕ → Type 0
 FunsGive funs n = (k : ℕ) (f : Fun) (args : List Bits) → k < n → slice_get funs k ≡ Some f → fit f.args args ≡ true → fits f.width (calls_of funs n k args) ≡ true
+
+-- the one who is asked replies words of the operations' widths, as long as it is good, and stays good
+pub record AnswersFit (A : Type 0) (q : Answering A) (heads : List OpHead) (Good : A → Type 0) : Type 0 where
+  pub replies : (a : A) (k : ℕ) (h : OpHead) (args : List Bits) → Good a → slice_get heads k ≡ Some h → fit (map (λ x. x.1) h.args) args ≡ true → fits h.result (q.reply a k args) ≡ true
+  pub stays : (a : A) (k : ℕ) (h : OpHead) (args : List Bits) → Good a → slice_get heads k ≡ Some h → fit (map (λ x. x.1) h.args) args ≡ true → Good (q.after a k args)
+
+-- the words fit, and the one who is asked is good
+pub record Fine (A : Type 0) (ws : Widths) (Good : A → Type 0) (st : Spaces × A) : Type 0 where
+  pub spaces : SpacesFit ws st.0
+  pub asked : Good st.1
