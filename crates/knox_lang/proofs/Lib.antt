@@ -2,3 +2,4 @@ pub mod CallLemmas
 pub mod FitLemmas
 pub mod WidthLemmas
 pub mod StmtLemmas
+pub mod OperationLemmas

@@ -3,7 +3,7 @@ use Rattle.std.proofs.Common.{◌≡◌, ℕ, zero, suc, ◌+◌, ◌-◌, ◌^�
 use Rattle.std.specs.List.{fold}
 use Rattle.knox_words.specs.Bits.{Bits, bits, word_or}
 use Rattle.knox_words.specs.Lists.{fit, fits}
-use Rattle.knox_words.proofs.Lists.{fit-slice_set}
+use Rattle.knox_words.proofs.Lists.{fit-slice_set, fits-below}
 use Rattle.knox_lang.specs.declared.expr.Space.{Space}
 use Rattle.knox_lang.specs.declared.expr.Space.TheVariants.{Own, Arg, Local, Bound, Input, Output, Noise, Spec, Device, Emu, Copy, Taken}
 use Rattle.knox_lang.specs.declared.expr.Slot.{Slot}
@@ -17,8 +17,8 @@ use Rattle.knox_lang.specs.declared.scope.Scope.{Scope}
 use Rattle.knox_lang.specs.Scope.{words_of, put_in, scope}
 use Rattle.knox_lang.specs.Eval.{eval, values, called}
 use Rattle.knox_lang.specs.Exec.{Answering, Does, in_order, turns, asks, stmt_level, does, does_all}
-use Rattle.knox_lang.specs.Typing.{Widths, is_width, turns_fit, widths_under, same_widths, width_of, Obeys, Leave, is_location, takes, all_obey, obeys_under, query_fits, stmt_fits_level, stmt_fits, stmts_fit, SpacesFit, FunsGive, AnswersFit, Fine}
-use Rattle.knox_lang.proofs.WidthLemmas.{and_first, and_second, is_width-true, get-some, bound-fits, Turns, turns_fit-true, turn-fits, same-parts, eval-has}
+use Rattle.knox_lang.specs.Typing.{Widths, is_width, turns_fit, widths_under, same_widths, width_of, Obeys, Leave, is_location, takes, stores, read_width, all_obey, obeys_under, query_fits, stmt_fits_level, stmt_fits, stmts_fit, SpacesFit, FunsGive, AnswersFit, Fine}
+use Rattle.knox_lang.proofs.WidthLemmas.{and_first, and_second, is_width-true, get-some, read-at, bound-fits, Turns, turns_fit-true, turn-fits, same-parts, eval-has}
 
 -- a word is replaced by one of its width
 pub put-fits : (ws : Widths) (sp : Spaces) (s : Space) (k : ℕ) (a : Bits) → fits (slice_index (ws s) k) a ≡ true → SpacesFit ws sp → SpacesFit ws (put_in sp s k a)
@@ -63,6 +63,10 @@ put-taken : (ws : Widths) (sp : Spaces) (s : Slot) (w : ℕ) (a : Bits) → slic
 put-taken ws sp s w a at p h =
     let r = get-some (ws s.space) s.number w at in
     put-fits ws sp s.space s.number a (subst (λ (k : ℕ). fits k a ≡ true) (sym r.1) p) h
+
+not-both : (b : Bool) → b && false ≡ true → ⊥
+not-both true h = cc
+not-both false h = cc
 
 under-obey : (os : List Obeys) (vs : List ℕ) (w : ℕ) → obeys_under os vs w ≡ true → all_obey os (vs ++ w ∷ []) ≡ true
 under-obey os vs w e = by_test (nat_lt (length vs) 256) e
@@ -127,6 +131,18 @@ module _ (A : Type 0) (q : Answering A) (funs : List Fun) (ws : Widths) (leave :
         asked = answers.stays st.1 k x args f.asked is fitted;
       }
 
+  store-keeps : (s : Slot) (i e : Expr) (vs : List ℕ) (sp : Spaces) (bound : List Bits) (o p : Option ℕ) → SpacesFit ws sp → fit vs bound ≡ true →
+      width_of funs (length funs) ws i vs ≡ o → width_of funs (length funs) ws e vs ≡ p → stores ws s o p ≡ true →
+      SpacesFit ws (put_in sp s.space (s.number + (eval (called funs) i (scope sp bound)).value) (eval (called funs) e (scope sp bound)))
+  store-keeps s i e vs sp bound o None h g is_i is_e ok = cc
+  store-keeps s i e vs sp bound None (Some w) h g is_i is_e ok = absurd (not-both (is_location s.space) ok)
+  store-keeps s i e vs sp bound (Some x) (Some w) h g is_i is_e ok =
+      let read : read_width (ws s.space) s.number (Some x) ≡ Some w = is_width-true (read_width (ws s.space) s.number (Some x)) w (and_second (is_location s.space) (is_width (read_width (ws s.space) s.number (Some x)) w) ok) in
+      let index : fits x (eval (called funs) i (scope sp bound)) ≡ true = value-fits i vs sp bound x h g is_i in
+      let r = read-at (ws s.space) s.number x (eval (called funs) i (scope sp bound)).value w read (fits-below x (eval (called funs) i (scope sp bound)) index) in
+      put-fits ws sp s.space (s.number + (eval (called funs) i (scope sp bound)).value) (eval (called funs) e (scope sp bound))
+        (subst (λ (k : ℕ). fits k (eval (called funs) e (scope sp bound)) ≡ true) (sym r.1) (value-fits e vs sp bound w h g is_e)) h
+
   either-keeps : (t : Bool) (a b : Spaces × A) → Fine A ws Good a → Fine A ws Good b → Fine A ws Good (if t then a else b)
   either-keeps true a b f g = f
   either-keeps false a b f g = g
@@ -140,7 +156,7 @@ module _ (A : Type 0) (q : Answering A) (funs : List Fun) (ws : Widths) (leave :
         spaces = put-taken ws st.0 s t.width (eval (called funs) e (scope st.0 bound)) t.there (value-fits e vs st.0 bound t.width f.spaces g t.given) f.spaces;
         asked = f.asked;
       }
-  at_level (Stmt-F.Store s i e) vs bound st g ok f = cc
+  at_level (Stmt-F.Store s i e) vs bound st g ok f = record { spaces = store-keeps s i e vs st.0 bound (width_of funs (length funs) ws i vs) (width_of funs (length funs) ws e vs) f.spaces g refl refl ok; asked = f.asked }
   at_level (Stmt-F.If c as' bs) vs bound st g ok f =
       let xs : List Obeys = map fitting (map (λ (s : Shown). s.0) as') in
       let ys : List Obeys = map fitting (map (λ (s : Shown). s.0) bs) in

@@ -1,5 +1,5 @@
 -- The value of an expression is a word of the expression's width.
-use Rattle.std.proofs.Common.{◌≡◌, ℕ, zero, suc, ◌+◌, ◌-◌, ◌^◌, ◌<◌, ◌≤◌, ◌==◌, ◌&&◌, ◌++◌, if◌then◌else◌, List, [], ◌∷◌, Bool, true, false, refl, ap, sym, ◌∙◌, subst, Option, Some, None, map, length, slice_get, slice_set, slice_index, eqb-true, nat_lt, nat_le, arith, inl, inr}
+use Rattle.std.proofs.Common.{◌≡◌, ℕ, zero, suc, ◌+◌, ◌-◌, ◌^◌, ◌<◌, ◌≤◌, ◌==◌, ◌&&◌, ◌++◌, if◌then◌else◌, List, [], ◌∷◌, Bool, true, false, refl, ap, sym, ◌∙◌, subst, Option, Some, None, map, length, slice_get, slice_set, slice_index, drop, length-drop, get_or-drop, eqb-true, nat_lt, nat_le, arith, inl, inr}
 use Rattle.std.proofs.lemmas.Bool.{leb-true, ltb-true, lt-ltb, le-leb, cases_lt}
 use Rattle.knox_words.specs.Bits.{Bits, bits, IsWord, is_word, ite_value, and_value, word_at, word_or}
 use Rattle.knox_words.specs.Ops.{op1_value, op2_or, op1_width, op2_width, fits2_of, slice_or, slice_value, sext_or, sext_value, uext_or, uext_value}
@@ -7,7 +7,7 @@ use Rattle.knox_words.specs.Lists.{fit, fits, are_widths}
 use Rattle.knox_words.specs.declared.op.Op1.{Op1}
 use Rattle.knox_words.specs.declared.op.Op2.{Op2}
 use Rattle.knox_words.specs.declared.op.Op2.TheVariants.{And}
-use Rattle.knox_words.proofs.Lists.{is_word-IsWord, fits-width, fits-IsWord, fits-from, fits-bits, fits-word_at, fit-slice_set, fit-both}
+use Rattle.knox_words.proofs.Lists.{is_word-IsWord, fits-width, fits-below, fits-IsWord, fits-from, fits-bits, fits-word_at, fit-slice_set, fit-both}
 use Rattle.knox_words.proofs.Results.{op1_value-fits, op2_value-fits, op2_or-fits, ite_value-fits, slice_value-IsWord, sext_value-IsWord, uext_value-IsWord}
 use Rattle.knox_lang.specs.declared.expr.Space.{Space}
 use Rattle.knox_lang.specs.declared.expr.Space.TheVariants.{Own, Arg, Local, Bound, Input, Output, Noise, Spec, Device, Emu, Copy, Taken}
@@ -20,7 +20,7 @@ use Rattle.knox_lang.specs.declared.scope.Scope.{Scope}
 use Rattle.knox_lang.specs.Scope.{words_of, space_of, named, binding, put_in, scope, args_scope}
 use Rattle.knox_lang.specs.Eval.{Calls, Value, level, eval, values, all_value, body_value, calls_of}
 use Rattle.knox_lang.proofs.CallLemmas.{same, differs}
-use Rattle.knox_lang.specs.Typing.{Widths, Kind, widths_of, name_width, un_width, bin_width, longer, slice_width, ite_width, under, let_width, turns_fit, test_width, all_width, same_widths, fun_width, fun_of, widths_under, width_level, width_of, is_width, fun_widths, fun_fits, funs_fit, SpacesFit, FunsGive}
+use Rattle.knox_lang.specs.Typing.{Widths, Kind, all_are, array_width, read_width, widths_of, name_width, un_width, bin_width, longer, slice_width, ite_width, under, let_width, turns_fit, test_width, all_width, same_widths, fun_width, fun_of, widths_under, width_level, width_of, is_width, fun_widths, fun_fits, funs_fit, SpacesFit, FunsGive}
 
 -- tests and options
 
@@ -35,6 +35,10 @@ and_second false b h = cc
 pub if-some : (t : Bool) (x v : ℕ) → (if t then Some x else None) ≡ Some v → (t ≡ true) × (x ≡ v)
 if-some true x v e = let is : x ≡ v = cc in (refl, is)
 if-some false x v e = cc
+
+pub guarded : (t : Bool) (o : Option ℕ) (v : ℕ) → (if t then o else None) ≡ Some v → (t ≡ true) × (o ≡ Some v)
+guarded true o v e = (refl, e)
+guarded false o v e = cc
 
 pub is_width-true : (o : Option ℕ) (w : ℕ) → is_width o w ≡ true → o ≡ Some w
 is_width-true None w h = cc
@@ -121,6 +125,35 @@ word_at-has ws as' k h v e =
     let r = get-some ws k v e in
     subst (λ (x : ℕ). fits x (word_at as' k) ≡ true) r.1 (fits-word_at ws as' k r.0 h)
 
+-- words of arrays
+
+all_are-at : (w n : ℕ) (vs : List ℕ) (k : ℕ) → all_are w n vs ≡ true → k < n → (k < length vs) × (slice_index vs k ≡ w)
+all_are-at w zero vs k h lt = absurd (omega arith)
+all_are-at w (suc n) [] k h lt = cc
+all_are-at w (suc n) (v ∷ vs) zero h lt = (omega arith, eqb-true v w (and_first (v == w) (all_are w n vs) h))
+all_are-at w (suc n) (v ∷ vs) (suc k) h lt = let r = all_are-at w n vs k (and_second (v == w) (all_are w n vs) h) (omega arith) in (omega arith, r.1)
+
+array-at : (n : ℕ) (vs : List ℕ) (k w : ℕ) → array_width n vs ≡ Some w → k < n → (k < length vs) × (slice_index vs k ≡ w)
+array-at n [] k w e lt = cc
+array-at n (v ∷ vs) k w e lt = let s = if-some (all_are v n (v ∷ vs)) v w e in let r = all_are-at v n (v ∷ vs) k s.0 lt in (r.0, r.1 ∙ s.1)
+
+dropped-at : (ws : List ℕ) (first k : ℕ) → k < length (drop first ws) → (first + k < length ws) × (slice_index ws (first + k) ≡ slice_index (drop first ws) k)
+dropped-at ws first k lt = (omega (arith, length-drop {A = ℕ}), sym (get_or-drop first ws k 0))
+
+-- the place of an array's word has the array's width
+pub read-at : (ws : List ℕ) (first x k w : ℕ) → read_width ws first (Some x) ≡ Some w → k < 2 ^ x → (first + k < length ws) × (slice_index ws (first + k) ≡ w)
+read-at ws first x k w e lt =
+    let s = guarded (nat_le 1 x && nat_le x 12) (array_width (2 ^ x) (drop first ws)) w e in
+    let r = array-at (2 ^ x) (drop first ws) k w s.1 lt in
+    let d = dropped-at ws first k r.0 in
+    (d.0, d.1 ∙ r.1)
+
+read-has : (ws : List ℕ) (as' : List Bits) (first : ℕ) (o : Option ℕ) (i : Bits) → fit ws as' ≡ true → Has o i → Has (read_width ws first o) (word_at as' (first + i.value))
+read-has ws as' first None i h p v e = cc
+read-has ws as' first (Some x) i h p v e =
+    let r = read-at ws first x i.value v e (fits-below x i (p x refl)) in
+    subst (λ (k : ℕ). fits k (word_at as' (first + i.value)) ≡ true) r.1 (fits-word_at ws as' (first + i.value) r.0 h)
+
 space-fits : (ws : Widths) (vs : List ℕ) (sc : Scope) (s : Space) → SpacesFit ws sc.spaces → fit vs sc.bound ≡ true → fit (widths_of ws vs s) (space_of sc s) ≡ true
 space-fits ws vs sc Bound h g = g
 space-fits ws vs sc s h g = h s
@@ -170,10 +203,6 @@ test-one None v e = cc
 test-one (Some w) v e =
     let s = if-some (w == 1) 1 v e in
     (ap (λ (k : ℕ). Some k) (eqb-true w 1 s.0), s.1)
-
-guarded : (t : Bool) (o : Option ℕ) (v : ℕ) → (if t then o else None) ≡ Some v → (t ≡ true) × (o ≡ Some v)
-guarded true o v e = (refl, e)
-guarded false o v e = cc
 
 -- arguments
 
@@ -239,7 +268,7 @@ module _ (funs : List Fun) (n : ℕ) (ws : Widths) (give : FunsGive funs n) wher
         (level (calls_of funs n) (map-Expr Expr Value value (map-Expr Shown Expr (λ (e : Shown). e.0) y)) sc)
   at_level (Expr-F.Lit w) vs sc h g v e = let s = if-some (is_word w) w.width v e in fits-from v w s.1 (is_word-IsWord w s.0)
   at_level (Expr-F.Name s) vs sc h g v e = word_at-has (widths_of ws vs s.space) (space_of sc s.space) s.number (space-fits ws vs sc s.space h g) v e
-  at_level (Expr-F.Read s i) vs sc h g v e = cc
+  at_level (Expr-F.Read s i) vs sc h g v e = read-has (widths_of ws vs s.space) (space_of sc s.space) s.number (wide i.0 vs) (value i.0 sc) (space-fits ws vs sc s.space h g) (i.1 vs sc h g) v e
   at_level (Expr-F.Un o a) vs sc h g v e = un-has o (wide a.0 vs) (value a.0 sc) (a.1 vs sc h g) v e
   at_level (Expr-F.Bin o a b) vs sc h g v e = bin-has o (wide a.0 vs) (wide b.0 vs) (value a.0 sc) (value b.0 sc) (a.1 vs sc h g) (b.1 vs sc h g) v e
   at_level (Expr-F.Sext m a) vs sc h g v e = sext-has m (wide a.0 vs) (value a.0 sc) (a.1 vs sc h g) v e

@@ -4,3 +4,4 @@ pub mod Weight
 pub mod Exec
 pub mod Operation
 pub mod Typing
+pub mod WellFormed

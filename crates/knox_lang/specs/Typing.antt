@@ -1,8 +1,8 @@
 -- The widths of expressions, and the rules that statements and bodies obey: words in range, of
 -- the widths that are wanted. The project's own, as are its limits: 4,096 turns of `for` and
 -- `all`, 1,000,000 of `while`, and 256 variables bound inside one another, since no text nests
--- deeper. Reads of arrays and stores into them have no width yet, so that no program has them.
-use Rattle.std.specs.Prelude.{◌≡◌, ◌<◌, ℕ, zero, suc, ◌+◌, ◌-◌, ◌^◌, ◌==◌, ◌&&◌, nat_lt, nat_le, List, [], ◌∷◌, ◌++◌, map, length, slice_get, Option, Some, None, Bool, true, false, if◌then◌else◌}
+-- deeper. An array has as many words, of one width, as its index can name: 2 to 4,096.
+use Rattle.std.specs.Prelude.{◌≡◌, ◌<◌, ℕ, zero, suc, ◌+◌, ◌-◌, ◌^◌, ◌==◌, ◌&&◌, nat_lt, nat_le, List, [], ◌∷◌, ◌++◌, map, length, slice_get, drop, Option, Some, None, Bool, true, false, if◌then◌else◌}
 use Rattle.knox_words.specs.Bits.{Bits, is_word}
 use Rattle.knox_words.specs.Ops.{op1_width, op2_width, fits2_of}
 use Rattle.knox_words.specs.declared.op.Op1.{Op1}
@@ -37,6 +37,22 @@ widths_of ws vs s = ws s
 
 abbrev pub name_width : Widths → Slot → Kind
 name_width ws s vs = slice_get (widths_of ws vs s.space) s.number
+
+-- whether the first n are w
+abbrev pub all_are : ℕ → ℕ → List ℕ → Bool
+all_are w zero vs = true
+all_are w (suc n) [] = false
+all_are w (suc n) (v ∷ vs) = v == w && all_are w n vs
+
+-- the width of n words, where there are so many and they have one width
+abbrev pub array_width : ℕ → List ℕ → Option ℕ
+array_width n [] = None
+array_width n (v ∷ vs) = if all_are v n (v ∷ vs) then Some v else None
+
+-- the width of the words of an array that begins at a place and has this index width
+abbrev pub read_width : List ℕ → ℕ → Option ℕ → Option ℕ
+read_width ws first None = None
+read_width ws first (Some x) = if nat_le 1 x && nat_le x 12 then array_width (2 ^ x) (drop first ws) else None
 
 abbrev pub un_width : Op1 → Option ℕ → Option ℕ
 un_width o None = None
@@ -100,7 +116,7 @@ widths_under ks vs = map (λ (k : Kind). k vs) ks
 abbrev pub width_level : List Fun → ℕ → Widths → Expr-F Kind → Kind
 width_level funs n ws (Expr-F.Lit w) vs = if is_word w then Some w.width else None
 width_level funs n ws (Expr-F.Name s) vs = name_width ws s vs
-width_level funs n ws (Expr-F.Read s i) vs = None
+width_level funs n ws (Expr-F.Read s i) vs = read_width (widths_of ws vs s.space) s.number (i vs)
 width_level funs n ws (Expr-F.Un o a) vs = un_width o (a vs)
 width_level funs n ws (Expr-F.Bin o a b) vs = bin_width o (a vs) (b vs)
 width_level funs n ws (Expr-F.Sext m a) vs = longer m (a vs)
@@ -162,6 +178,11 @@ abbrev pub takes : Widths → Slot → Option ℕ → Bool
 takes ws s None = false
 takes ws s (Some w) = is_location s.space && is_width (slice_get (ws s.space) s.number) w
 
+-- whether a word of the second width can be put into the array there, which has the first as index width
+abbrev pub stores : Widths → Slot → Option ℕ → Option ℕ → Bool
+stores ws s i None = false
+stores ws s i (Some w) = is_location s.space && is_width (read_width (ws s.space) s.number i) w
+
 abbrev pub all_obey : List Obeys → Obeys
 all_obey [] vs = true
 all_obey (o ∷ os) vs = o vs && all_obey os vs
@@ -181,7 +202,7 @@ input_fits _ _ = false
 -- one level of a statement, over whether its parts obey the rules
 abbrev pub stmt_fits_level : List Fun → Widths → Leave → Stmt-F Obeys → Obeys
 stmt_fits_level funs ws leave (Stmt-F.Assign s e) vs = takes ws s (width_of funs (length funs) ws e vs)
-stmt_fits_level funs ws leave (Stmt-F.Store s i e) vs = false
+stmt_fits_level funs ws leave (Stmt-F.Store s i e) vs = stores ws s (width_of funs (length funs) ws i vs) (width_of funs (length funs) ws e vs)
 stmt_fits_level funs ws leave (Stmt-F.If c as' bs) vs = is_width (width_of funs (length funs) ws c vs) 1 && (all_obey as' vs && all_obey bs vs)
 stmt_fits_level funs ws leave (Stmt-F.For w n body) vs = turns_fit w n && obeys_under body vs w
 stmt_fits_level funs ws leave (Stmt-F.While c n body) vs = leave.ticks && (is_width (width_of funs (length funs) ws c vs) 1 && (nat_le n 1000000 && all_obey body vs))
