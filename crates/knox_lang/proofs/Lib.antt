@@ -3,3 +3,4 @@ pub mod FitLemmas
 pub mod WidthLemmas
 pub mod StmtLemmas
 pub mod OperationLemmas
+pub mod TypingLemmas

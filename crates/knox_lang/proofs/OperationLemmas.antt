@@ -1,23 +1,21 @@
 -- An operation keeps the widths of the fields, and gives a word of its result's width.
-use Rattle.std.proofs.Common.{◌≡◌, ℕ, zero, suc, ◌+◌, ◌^◌, ◌<◌, ◌≤◌, ◌==◌, ◌&&◌, ◌++◌, List, [], ◌∷◌, Bool, true, false, refl, ap, sym, ◌∙◌, subst, Option, Some, None, map, length, slice_get, nat_le, arith}
+use Rattle.std.proofs.Common.{◌≡◌, ℕ, zero, suc, ◌&&◌, List, [], ◌∷◌, true, refl, sym, subst, Option, Some, None, map, length, slice_get}
 use Rattle.std.proofs.lemmas.Nat.{pow_pos}
-use Rattle.knox_words.specs.Bits.{Bits, bits, is_word, word_or}
+use Rattle.knox_words.specs.Bits.{Bits}
 use Rattle.knox_words.specs.Lists.{fit, fits, are_widths}
 use Rattle.knox_words.proofs.Lists.{are_widths-first, are_widths-rest}
-use Rattle.knox_lang.specs.declared.expr.Space.{Space}
-use Rattle.knox_lang.specs.declared.expr.Space.TheVariants.{Own, Arg, Local, Bound, Input, Output, Noise, Spec, Device, Emu, Copy, Taken}
+use Rattle.knox_lang.specs.declared.expr.Space.TheVariants.{Own, Arg, Local}
 use Rattle.knox_lang.specs.declared.expr.Expr.{Expr}
 use Rattle.knox_lang.specs.declared.parts.Fun.{Fun}
 use Rattle.knox_lang.specs.declared.parts.OpHead.{OpHead}
 use Rattle.knox_lang.specs.declared.parts.Body.{Body}
 use Rattle.knox_lang.specs.declared.parts.SpecParts.{SpecParts}
 use Rattle.knox_lang.specs.declared.scope.Spaces.{Spaces}
-use Rattle.knox_lang.specs.Scope.{words_of, scope}
+use Rattle.knox_lang.specs.Scope.{scope}
 use Rattle.knox_lang.specs.Eval.{called}
-use Rattle.knox_lang.specs.Exec.{does_all}
-use Rattle.knox_lang.specs.Operation.{no_queries, start_of, body_spaces, body_after, result_in, after_in, reply_in, op_after, op_result, state_widths, arg_widths}
-use Rattle.knox_lang.specs.Typing.{Widths, Leave, width_of, is_width, stmts_fit, funs_fit, SpacesFit, FunsGive, AnswersFit, Fine}
-use Rattle.knox_lang.specs.WellFormed.{local_widths, no_leave, result_fits, statements_fit, op_widths, op_fits, ops_fit, fields_fit, word_widths, spec_fits, OpKeeps, IsTyped}
+use Rattle.knox_lang.specs.Operation.{no_queries, start_of, body_spaces, body_after, result_in, after_in, reply_in, arg_widths}
+use Rattle.knox_lang.specs.Typing.{Widths, Leave, width_of, stmts_fit, funs_fit, SpacesFit, FunsGive, AnswersFit}
+use Rattle.knox_lang.specs.WellFormed.{local_widths, no_leave, result_fits, statements_fit, op_widths, op_fits, ops_fit, fields_fit, word_widths, spec_fits, IsTyped}
 use Rattle.knox_lang.proofs.WidthLemmas.{and_first, and_second, is_width-true, word_or-fits, eval-has, funs-give}
 use Rattle.knox_lang.proofs.StmtLemmas.{stmts-keep}
 
@@ -50,7 +48,7 @@ body-keeps funs own h b fields args give ok f a =
     let locals : are_widths (local_widths b) ≡ true = and_first (are_widths (local_widths b)) (stmts_fit funs (op_widths own [] h b) no_leave b.stmts []) ok in
     let stmts : stmts_fit funs (op_widths own [] h b) no_leave b.stmts [] ≡ true = and_second (are_widths (local_widths b)) (stmts_fit funs (op_widths own [] h b) no_leave b.stmts []) ok in
     (stmts-keep (Unit {0}) no_queries funs (op_widths own [] h b) no_leave Good give no-answers b.stmts [] [] (body_spaces b fields args, tt) refl stmts
-      (record { spaces = body-spaces-fit own h b fields args f a locals; asked = tt })).spaces
+    (record { spaces = body-spaces-fit own h b fields args f a locals; asked = tt })).spaces
 
 result-fits : (funs : List Fun) (ws : Widths) (w : ℕ) (o : Option Expr) (sp : Spaces) → FunsGive funs (length funs) → result_fits funs ws w o ≡ true → SpacesFit ws sp → fits w (result_in (called funs) o sp) ≡ true
 result-fits funs ws w None sp give ok h = cc
@@ -82,9 +80,9 @@ spec-is-typed p ok k h fields args is f a =
     let ws : Widths = op_widths own [] h r.body in
     let rest = and_second (are_widths (arg_widths h)) (statements_fit p.funs ws no_leave r.body && result_fits p.funs ws h.result r.body.result) r.obeys in
     let after : SpacesFit ws (body_after p.funs r.body fields args) =
-      body-keeps p.funs own h r.body fields args give (and_first (statements_fit p.funs ws no_leave r.body) (result_fits p.funs ws h.result r.body.result) rest) f a in
+    body-keeps p.funs own h r.body fields args give (and_first (statements_fit p.funs ws no_leave r.body) (result_fits p.funs ws h.result r.body.result) rest) f a in
     record {
       kept = subst (λ (b : Option Body). fit own (after_in p.funs b fields args) ≡ true) (sym r.at) (after Own);
       given = subst (λ (b : Option Body). fits h.result (reply_in p.funs b fields args) ≡ true) (sym r.at)
-        (result-fits p.funs ws h.result r.body.result (body_after p.funs r.body fields args) give (and_second (statements_fit p.funs ws no_leave r.body) (result_fits p.funs ws h.result r.body.result) rest) after);
+          (result-fits p.funs ws h.result r.body.result (body_after p.funs r.body fields args) give (and_second (statements_fit p.funs ws no_leave r.body) (result_fits p.funs ws h.result r.body.result) rest) after);
     }

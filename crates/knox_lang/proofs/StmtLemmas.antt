@@ -1,7 +1,6 @@
 -- Statements keep the widths of the words.
-use Rattle.std.proofs.Common.{◌≡◌, ℕ, zero, suc, ◌+◌, ◌-◌, ◌^◌, ◌<◌, ◌≤◌, ◌==◌, ◌&&◌, ◌++◌, if◌then◌else◌, List, [], ◌∷◌, Bool, true, false, refl, ap, sym, ◌∙◌, subst, Option, Some, None, map, length, slice_get, slice_set, slice_index, eqb-true, nat_lt, nat_le, arith}
-use Rattle.std.specs.List.{fold}
-use Rattle.knox_words.specs.Bits.{Bits, bits, word_or}
+use Rattle.std.proofs.Common.{◌≡◌, ℕ, zero, suc, ◌+◌, ◌≤◌, ◌==◌, ◌&&◌, ◌++◌, if◌then◌else◌, List, [], ◌∷◌, Bool, true, false, refl, ap, sym, ◌∙◌, subst, Option, Some, None, map, length, slice_get, slice_index, nat_lt, arith}
+use Rattle.knox_words.specs.Bits.{Bits, word_or}
 use Rattle.knox_words.specs.Lists.{fit, fits}
 use Rattle.knox_words.proofs.Lists.{fit-slice_set, fits-below}
 use Rattle.knox_lang.specs.declared.expr.Space.{Space}
@@ -13,8 +12,7 @@ use Rattle.knox_lang.specs.declared.expr.Stmt.TheOpen.{Stmt-F}
 use Rattle.knox_lang.specs.declared.parts.Fun.{Fun}
 use Rattle.knox_lang.specs.declared.parts.OpHead.{OpHead}
 use Rattle.knox_lang.specs.declared.scope.Spaces.{Spaces}
-use Rattle.knox_lang.specs.declared.scope.Scope.{Scope}
-use Rattle.knox_lang.specs.Scope.{words_of, put_in, scope}
+use Rattle.knox_lang.specs.Scope.{put_in, scope}
 use Rattle.knox_lang.specs.Eval.{eval, values, called}
 use Rattle.knox_lang.specs.Exec.{Answering, Does, in_order, turns, asks, stmt_level, does, does_all}
 use Rattle.knox_lang.specs.Typing.{Widths, is_width, turns_fit, widths_under, same_widths, width_of, Obeys, Leave, is_location, takes, stores, read_width, all_obey, obeys_under, query_fits, stmt_fits_level, stmt_fits, stmts_fit, SpacesFit, FunsGive, AnswersFit, Fine}
@@ -116,8 +114,8 @@ module _ (A : Type 0) (q : Answering A) (funs : List Fun) (ws : Widths) (leave :
   turns-keep ss vs bound w n zero st g t le e f = f
   turns-keep ss vs bound w n (suc k) st g t le e f =
       list-keeps ss (vs ++ w ∷ []) (bound ++ word_or w k ∷ []) (turns A (in_order A (map doing (map (λ (s : Shown). s.0) ss))) w k st bound)
-        (bound-fits vs bound w (word_or w k) g (turn-fits w n k t (omega arith))) e
-        (turns-keep ss vs bound w n k st g t (omega arith) e f)
+      (bound-fits vs bound w (word_or w k) g (turn-fits w n k t (omega arith))) e
+      (turns-keep ss vs bound w n k st g t (omega arith) e f)
 
   asks-keeps : (s : Slot) (k : ℕ) (o : Option OpHead) (args : List Bits) (os : List (Option ℕ)) (st : Spaces × A) → slice_get leave.heads k ≡ o →
       ((us : List ℕ) → same_widths us os ≡ true → fit us args ≡ true) → query_fits ws s o os ≡ true → Fine A ws Good st → Fine A ws Good (asks A q s k args st)
@@ -141,7 +139,7 @@ module _ (A : Type 0) (q : Answering A) (funs : List Fun) (ws : Widths) (leave :
       let index : fits x (eval (called funs) i (scope sp bound)) ≡ true = value-fits i vs sp bound x h g is_i in
       let r = read-at (ws s.space) s.number x (eval (called funs) i (scope sp bound)).value w read (fits-below x (eval (called funs) i (scope sp bound)) index) in
       put-fits ws sp s.space (s.number + (eval (called funs) i (scope sp bound)).value) (eval (called funs) e (scope sp bound))
-        (subst (λ (k : ℕ). fits k (eval (called funs) e (scope sp bound)) ≡ true) (sym r.1) (value-fits e vs sp bound w h g is_e)) h
+      (subst (λ (k : ℕ). fits k (eval (called funs) e (scope sp bound)) ≡ true) (sym r.1) (value-fits e vs sp bound w h g is_e)) h
 
   either-keeps : (t : Bool) (a b : Spaces × A) → Fine A ws Good a → Fine A ws Good b → Fine A ws Good (if t then a else b)
   either-keeps true a b f g = f
@@ -162,25 +160,25 @@ module _ (A : Type 0) (q : Answering A) (funs : List Fun) (ws : Widths) (leave :
       let ys : List Obeys = map fitting (map (λ (s : Shown). s.0) bs) in
       let both = and_second (is_width (width_of funs (length funs) ws c vs) 1) (all_obey xs vs && all_obey ys vs) ok in
       either-keeps ((eval (called funs) c (scope st.0 bound)).value == 1) (in_order A (map doing (map (λ (s : Shown). s.0) as')) st bound) (in_order A (map doing (map (λ (s : Shown). s.0) bs)) st bound)
-        (list-keeps as' vs bound st g (and_first (all_obey xs vs) (all_obey ys vs) both) f)
-        (list-keeps bs vs bound st g (and_second (all_obey xs vs) (all_obey ys vs) both) f)
+      (list-keeps as' vs bound st g (and_first (all_obey xs vs) (all_obey ys vs) both) f)
+      (list-keeps bs vs bound st g (and_second (all_obey xs vs) (all_obey ys vs) both) f)
   at_level (Stmt-F.For w n ss) vs bound st g ok f =
       let xs : List Obeys = map fitting (map (λ (s : Shown). s.0) ss) in
       turns-keep ss vs bound w n n st g (turns_fit-true w n (and_first (turns_fit w n) (obeys_under xs vs w) ok)) (omega arith)
-        (under-obey xs vs w (and_second (turns_fit w n) (obeys_under xs vs w) ok)) f
+      (under-obey xs vs w (and_second (turns_fit w n) (obeys_under xs vs w) ok)) f
   at_level (Stmt-F.While c n ss) vs bound st g ok f = f
   at_level (Stmt-F.SetInput k e) vs bound st g ok f = f
   at_level Stmt-F.Tick vs bound st g ok f = f
   at_level Stmt-F.CopyTick vs bound st g ok f = f
   at_level (Stmt-F.Query s k es) vs bound st g ok f =
       asks-keeps s k (slice_get leave.heads k) (values (map (eval (called funs)) es) (scope st.0 bound)) (widths_under (map (width_of funs (length funs) ws) es) vs) st refl
-        (λ us e. values-fit es vs st.0 bound us f.spaces g e) ok f
+      (λ us e. values-fit es vs st.0 bound us f.spaces g e) ok f
 
   pub stmt-keeps : (s : Stmt) → KeepsFine s
   stmt-keeps = ind-Stmt KeepsFine (λ x y is.
       subst (λ z. KeepsFine (roll-Stmt z)) is (λ vs bound st g ok f.
-        subst (λ (d : Does A). Fine A ws Good (d st bound)) (sym (fold-roll-Stmt (Does A) (stmt_level A (called funs) q) (map-Stmt Shown Stmt (λ (s : Shown). s.0) y)))
-          (at_level y vs bound st g (ap (λ (o : Obeys). o vs) (sym (fold-roll-Stmt Obeys (stmt_fits_level funs ws leave) (map-Stmt Shown Stmt (λ (s : Shown). s.0) y))) ∙ ok) f)))
+      subst (λ (d : Does A). Fine A ws Good (d st bound)) (sym (fold-roll-Stmt (Does A) (stmt_level A (called funs) q) (map-Stmt Shown Stmt (λ (s : Shown). s.0) y)))
+      (at_level y vs bound st g (ap (λ (o : Obeys). o vs) (sym (fold-roll-Stmt Obeys (stmt_fits_level funs ws leave) (map-Stmt Shown Stmt (λ (s : Shown). s.0) y))) ∙ ok) f)))
 
   -- statements in order
   pub stmts-keep : (ss : List Stmt) (vs : List ℕ) (bound : List Bits) (st : Spaces × A) → fit vs bound ≡ true → stmts_fit funs ws leave ss vs ≡ true → Fine A ws Good st →
@@ -188,4 +186,4 @@ module _ (A : Type 0) (q : Answering A) (funs : List Fun) (ws : Widths) (leave :
   stmts-keep [] vs bound st g e f = f
   stmts-keep (s ∷ ss) vs bound st g e f =
       stmts-keep ss vs bound (doing s st bound) g (and_second (fitting s vs) (stmts_fit funs ws leave ss vs) e)
-        (stmt-keeps s vs bound st g (and_first (fitting s vs) (stmts_fit funs ws leave ss vs) e) f)
+      (stmt-keeps s vs bound st g (and_first (fitting s vs) (stmts_fit funs ws leave ss vs) e) f)

@@ -9,7 +9,7 @@ use Rattle.knox_words.specs.declared.op.Op1.{Op1}
 use Rattle.knox_words.specs.declared.op.Op2.{Op2}
 use Rattle.knox_words.specs.Lists.{are_widths, fit, fits}
 use Rattle.knox_lang.specs.declared.expr.Space.{Space}
-use Rattle.knox_lang.specs.declared.expr.Space.TheVariants.{Own, Arg, Local, Bound, Input, Output, Noise, Spec, Device, Emu, Copy, Taken}
+use Rattle.knox_lang.specs.declared.expr.Space.TheVariants.{Own, Arg, Local, Bound, Copy}
 use Rattle.knox_lang.specs.declared.expr.Slot.{Slot}
 use Rattle.knox_lang.specs.declared.expr.Expr.{Expr, fold-Expr}
 use Rattle.knox_lang.specs.declared.expr.Expr.TheOpen.{Expr-F}
@@ -98,7 +98,7 @@ all_width a w n vs = if turns_fit w n then test_width (under a vs w) else None
 -- whether all have a width, the one that is wanted
 abbrev pub same_widths : List ℕ → List (Option ℕ) → Bool
 same_widths [] [] = true
-same_widths (w ∷ ws) (Some v ∷ vs) = w == v && same_widths ws vs
+same_widths (w ∷ ws) (Some v ∷ vs) = v == w && same_widths ws vs
 same_widths _ _ = false
 
 abbrev pub fun_width : Option Fun → List (Option ℕ) → Option ℕ
@@ -137,14 +137,14 @@ is_width None w = false
 is_width (Some v) w = v == w
 
 -- a function sees its arguments alone
-abbrev pub fun_widths : Fun → Widths
-fun_widths f Arg = f.args
-fun_widths f _ = []
+abbrev pub fun_widths : List ℕ → Widths
+fun_widths args Arg = args
+fun_widths args _ = []
 
 -- whether function k obeys the rules: it calls earlier functions alone
 abbrev pub fun_fits : List Fun → ℕ → Option Fun → Bool
 fun_fits funs k None = false
-fun_fits funs k (Some f) = are_widths f.args && is_width (width_of funs k (fun_widths f) f.body []) f.width
+fun_fits funs k (Some f) = are_widths f.args && is_width (width_of funs k (fun_widths f.args) f.body []) f.width
 
 -- whether the first n functions obey the rules
 abbrev pub funs_fit : List Fun → ℕ → Bool

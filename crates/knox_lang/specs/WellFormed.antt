@@ -1,13 +1,11 @@
 -- Which parts make a program: fields in order with their initial words, functions that obey the
 -- rules, and a body that obeys them for each operation. The project's own; so is the limit of
 -- 65,536 words.
-use Rattle.std.specs.Prelude.{◌≡◌, ℕ, zero, suc, ◌+◌, ◌^◌, ◌==◌, ◌&&◌, nat_le, List, [], ◌∷◌, ◌++◌, map, length, replicate, slice_get, Option, Some, None, Bool, true, false, not, if◌then◌else◌}
+use Rattle.std.specs.Prelude.{◌≡◌, ℕ, ◌+◌, ◌^◌, ◌==◌, ◌&&◌, nat_le, List, [], ◌∷◌, ◌++◌, map, length, replicate, slice_get, Option, Some, None, Bool, true, false, if◌then◌else◌}
 use Rattle.knox_words.specs.Bits.{Bits}
 use Rattle.knox_words.specs.Lists.{fit, fits, are_widths}
-use Rattle.knox_lang.specs.declared.expr.Space.{Space}
-use Rattle.knox_lang.specs.declared.expr.Space.TheVariants.{Own, Arg, Local, Bound, Input, Output, Noise, Spec, Device, Emu, Copy, Taken}
+use Rattle.knox_lang.specs.declared.expr.Space.TheVariants.{Own, Arg, Local, Input, Output, Noise, Copy}
 use Rattle.knox_lang.specs.declared.expr.Expr.{Expr}
-use Rattle.knox_lang.specs.declared.expr.Stmt.{Stmt}
 use Rattle.knox_lang.specs.declared.parts.Field.{Field}
 use Rattle.knox_lang.specs.declared.parts.Fun.{Fun}
 use Rattle.knox_lang.specs.declared.parts.OpHead.{OpHead}
@@ -16,7 +14,7 @@ use Rattle.knox_lang.specs.declared.parts.SpecParts.{SpecParts}
 use Rattle.knox_lang.specs.declared.parts.DriverParts.{DriverParts}
 use Rattle.knox_lang.specs.declared.parts.EmuParts.{EmuParts}
 use Rattle.knox_lang.specs.Operation.{arg_widths, state_widths, op_after, op_result}
-use Rattle.knox_lang.specs.Typing.{Widths, Leave, width_of, is_width, stmts_fit, funs_fit}
+use Rattle.knox_lang.specs.Typing.{Widths, Leave, width_of, widths_under, same_widths, is_width, stmts_fit, funs_fit}
 
 -- how many words a field has
 abbrev pub word_count : Option ℕ → ℕ
@@ -60,13 +58,20 @@ result_fits funs ws w (Some e) = is_width (width_of funs (length funs) ws e []) 
 abbrev pub statements_fit : List Fun → Widths → Leave → Body → Bool
 statements_fit funs ws leave b = are_widths (local_widths b) && stmts_fit funs ws leave b.stmts []
 
+-- the words that a body sees, by the widths of its spaces
+abbrev pub body_widths : List ℕ → List ℕ → List ℕ → List ℕ → List ℕ → List ℕ → List ℕ → Widths
+body_widths own args locals ins outs noise copy Own = own
+body_widths own args locals ins outs noise copy Arg = args
+body_widths own args locals ins outs noise copy Local = locals
+body_widths own args locals ins outs noise copy Input = ins
+body_widths own args locals ins outs noise copy Output = outs
+body_widths own args locals ins outs noise copy Noise = noise
+body_widths own args locals ins outs noise copy Copy = copy
+body_widths own args locals ins outs noise copy _ = []
+
 -- a body of an operation sees fields, arguments, locals and outputs
 abbrev pub op_widths : List ℕ → List ℕ → OpHead → Body → Widths
-op_widths own outs h b Own = own
-op_widths own outs h b Arg = arg_widths h
-op_widths own outs h b Local = local_widths b
-op_widths own outs h b Output = outs
-op_widths own outs h b _ = []
+op_widths own outs h b = body_widths own (arg_widths h) (local_widths b) [] outs [] []
 
 abbrev pub op_fits : List Fun → List ℕ → List ℕ → Leave → OpHead → Body → Bool
 op_fits funs own outs leave h b =
@@ -96,27 +101,15 @@ where_copied p ws = if p.copy then ws else []
 
 -- the body `power` sees fields, locals, noise and the copy
 abbrev pub power_widths : EmuParts → Widths
-power_widths p Own = word_widths p.init
-power_widths p Local = local_widths p.power
-power_widths p Noise = field_widths p.noise
-power_widths p Output = where_copied p p.outs
-power_widths p Copy = where_copied p (field_widths p.cells)
-power_widths p _ = []
+power_widths p = body_widths (word_widths p.init) [] (local_widths p.power) [] (where_copied p p.outs) (field_widths p.noise) (where_copied p (field_widths p.cells))
 
--- a body that sees the inputs, with locals of these widths
+-- outputs and `tick` see the inputs; `tick` has locals
 abbrev pub wire_widths : EmuParts → List ℕ → Widths
-wire_widths p locals Own = word_widths p.init
-wire_widths p locals Local = locals
-wire_widths p locals Input = p.ins
-wire_widths p locals Output = where_copied p p.outs
-wire_widths p locals Copy = where_copied p (field_widths p.cells)
-wire_widths p locals _ = []
+wire_widths p locals = body_widths (word_widths p.init) [] locals p.ins (where_copied p p.outs) [] (where_copied p (field_widths p.cells))
 
--- whether each expression has its width
-abbrev pub each_width : List Fun → Widths → List Expr → List ℕ → Bool
-each_width funs ws [] [] = true
-each_width funs ws (e ∷ es) (v ∷ vs) = is_width (width_of funs (length funs) ws e []) v && each_width funs ws es vs
-each_width funs ws _ _ = false
+-- whether there is an expression for each output, of its width
+abbrev pub outputs_fit : EmuParts → Bool
+outputs_fit p = same_widths p.outs (widths_under (map (width_of p.funs (length p.funs) (wire_widths p [])) p.outputs) [])
 
 abbrev pub tick_leave : EmuParts → Leave
 tick_leave p = record { heads = p.ops; inputs = []; ticks = false; copy_ticks = p.copy }
@@ -125,11 +118,11 @@ tick_leave p = record { heads = p.ops; inputs = []; ticks = false; copy_ticks = 
 abbrev pub emulator_fits : EmuParts → Bool
 emulator_fits p =
     fields_fit p.fields p.init
-      && (are_widths p.ins && (are_widths p.outs
-      && (funs_fit p.funs (length p.funs)
-      && (statements_fit p.funs (power_widths p) no_leave p.power
-      && (each_width p.funs (wire_widths p []) p.outputs p.outs
-      && statements_fit p.funs (wire_widths p (local_widths p.tick)) (tick_leave p) p.tick)))))
+    && (are_widths p.ins && (are_widths p.outs
+    && (funs_fit p.funs (length p.funs)
+    && (statements_fit p.funs (power_widths p) no_leave p.power
+    && (outputs_fit p
+    && statements_fit p.funs (wire_widths p (local_widths p.tick)) (tick_leave p) p.tick)))))
 
 -- an operation keeps the widths of the fields, and gives a word of its result's width
 pub record OpKeeps (p : SpecParts) (k : ℕ) (h : OpHead) (fields : List Bits) (args : List Bits) : Type 0 where

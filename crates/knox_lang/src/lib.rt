@@ -2,18 +2,23 @@
 //! statements and operations mean. Start at `op`, whose meaning is `specs/Operation.antt`.
 #![tactic(auto)]
 
+mod binders;
 mod evaluate;
 mod execute;
 mod expr;
+mod laws;
+mod measured;
 mod operate;
 mod parts;
 mod program;
 mod queries;
 mod scope;
+mod typing;
 
 pub use evaluate::{eval, eval_in};
 pub use execute::exec_in;
 pub use expr::{Expr, Slot, Space, Stmt};
+pub use laws::operations_keep_widths;
 pub use operate::{SpecAnswers, exec, op};
 pub use parts::{Body, DriverParts, EmuParts, Field, Fun, OpHead, SpecParts};
 pub use program::{

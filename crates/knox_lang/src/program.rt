@@ -4,9 +4,9 @@ ghost use Rattle.knox_words.specs.Bits.{Bits, bits};
 ghost use Rattle.knox_words.specs.Lists.{fit};
 ghost use Rattle.knox_lang.specs.Operation.{state_widths, call_fits};
 
+use crate::measured::fit_all;
 use crate::parts::{DriverParts, EmuParts, Field, OpHead, SpecParts};
 use knox_words::{Word, Words};
-use sqlite_items::Items;
 use std::alloc::{AllocError, Global};
 use std::marker::Model;
 
@@ -176,7 +176,7 @@ pub fn initial(alloc: Global, p: &SpecProgram) -> Result<SpecState, AllocError>
 pub fn fits_state(p: &SpecProgram, s: &SpecState) -> bool
     ensures { result ≡ fit (state_widths p.now) s.now.words }
 {
-    same_widths(p.parts.init.as_slice(), s.words.as_slice())
+    fit_all(p.parts.init.as_slice(), s.words.as_slice())
 }
 
 /// Whether there is an operation with this number, and it takes these arguments.
@@ -184,37 +184,7 @@ pub fn fits_call(p: &SpecProgram, op: u32, args: &[Word]) -> bool
     ensures { result ≡ call_fits p.now op args.now }
 {
     match p.parts.ops.get(op as usize) {
-        Some(head) => fits_args(head.args.as_slice(), args),
+        Some(head) => fit_all(head.args.as_slice(), args),
         None => false,
     }
-}
-
-/// Whether words have the widths of these arguments.
-fn fits_args(wanted: &[(Items<u8>, u8)], args: &[Word]) -> bool
-    ensures { result ≡ fit (map (λ a. a.1) wanted.now) args.now }
-{
-    if wanted.len() != args.len() {
-        return false;
-    }
-    for (k, want) in wanted.iter().enumerate() {
-        if want.1 != args[k].width() {
-            return false;
-        }
-    }
-    true
-}
-
-/// Whether two lists of words have the same widths.
-fn same_widths(wanted: &[Word], words: &[Word]) -> bool
-    ensures { result ≡ fit (map (λ w. w.width) wanted.now) words.now }
-{
-    if wanted.len() != words.len() {
-        return false;
-    }
-    for (k, want) in wanted.iter().enumerate() {
-        if want.width() != words[k].width() {
-            return false;
-        }
-    }
-    true
 }
