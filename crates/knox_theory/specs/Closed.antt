@@ -1,7 +1,7 @@
 -- When choices falsify a hint, and when a script is closed: no choices falsify any hint.
 -- The project's own. `Closed` is the one premise of the theorem that a search has to show; the others are on the design and on the script's form.
 -- Nobody has to believe it for a yes. Who is told of an undecided hint must believe `Falsifies`.
-use Rattle.std.specs.Prelude.{◌≡◌, ℕ, ◌==◌, Option, Some, None, ◌⊎◌, List, [], ◌∷◌, ◌++◌, Bool, true, false, if◌then◌else◌}
+use Rattle.std.specs.Prelude.{◌≡◌, ℕ, ◌<◌, ◌==◌, Option, Some, None, ◌⊎◌, List, [], ◌∷◌, ◌++◌, Bool, true, false, if◌then◌else◌}
 use Rattle.knox_words.specs.Lists.{Words, fit}
 use Rattle.knox_theory.specs.Design.{Design}
 use Rattle.knox_theory.specs.Course.{Failed, run}
@@ -21,6 +21,10 @@ pub record Falsifies {P : Type 0} (d : Design P) (s : Script P) (h : ℕ) (cs : 
 
 pub record Closed {P : Type 0} (d : Design P) (s : Script P) : Type 0 where
   pub never : (h : ℕ) (cs : Words) → Falsifies d s h cs → ⊥
+
+-- no choices falsify a hint of a segment whose own number is below n
+pub record ClosedBelow {P : Type 0} (d : Design P) (s : Script P) (n : ℕ) : Type 0 where
+  pub never : (h : ℕ) (cs : Words) (f : Falsifies d s h cs) → f.segment.hint < n → ⊥
 
 -- `refine` holds as the device leaves the factory: what a script without the section `factory` doesn't check
 abbrev pub StartsRefined : {P : Type 0} → Design P → Script P → Type 0

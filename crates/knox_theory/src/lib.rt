@@ -15,5 +15,5 @@ pub use laws::{
 };
 pub use search::{
     branch_is_safe, choice_bits_bound, leaf_is_safe, numbers_cover_choices, root_is_safe,
-    safe_segments_close, trying_all_closes,
+    safe_front_closes_below, safe_segments_close, trying_all_closes,
 };

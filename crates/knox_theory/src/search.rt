@@ -1,18 +1,23 @@
 //! Two ways of trying all choices, by number and word by word, and that each covers every list of choices, of any widths and length.
-ghost use Rattle.std.specs.Prelude.{◌≡◌, ℕ, Some, None, [], ◌∷◌, ◌++◌, ◌<◌, ◌^◌, true};
+ghost use Rattle.std.specs.Prelude.{◌≡◌, ℕ, Some, None, List, [], ◌∷◌, ◌++◌, ◌<◌, ◌^◌, true};
 ghost use Rattle.knox_words.specs.Bits.{bits};
 ghost use Rattle.knox_words.specs.Lists.{Words};
 ghost use Rattle.knox_theory.specs.Design.{Design};
 ghost use Rattle.knox_theory.specs.Script.{Script};
 ghost use Rattle.knox_theory.specs.Course.{Course, Failed, Safe, run};
 ghost use Rattle.knox_theory.specs.Segments.{Segment, segments};
-ghost use Rattle.knox_theory.specs.Closed.{Closed, IsAmong};
+ghost use Rattle.knox_theory.specs.Closed.{Closed, ClosedBelow, IsAmong};
 ghost use Rattle.knox_theory.specs.Numbered.{Covered, Within, all_tried};
 ghost use Rattle.knox_theory.specs.Searched.{SafeFrom, wants};
 
 /// A script is closed where no choices falsify a hint of any of its segments.
 pub fn safe_segments_close<P>()
     ensures { (d : Design P) (s : Script P) → ((g : Segment) → IsAmong g (segments d s) → Safe g.course) → Closed d s }
+{}
+
+/// Where no choices falsify a hint of the segments that stand before one of them, none do of any segment whose number is below its own.
+pub fn safe_front_closes_below<P>()
+    ensures { (d : Design P) (s : Script P) (g : Segment) (before after : List Segment) → segments d s ≡ before ++ g ∷ after → ((x : Segment) → IsAmong x before → Safe x.course) → ClosedBelow d s g.hint }
 {}
 
 /// No path of a segment takes more bits than its number of choice bits.
