@@ -143,9 +143,12 @@ module _ {P : Type 0} (d : Design P) (s : Script P) where
   cuts-safe m (Cut h c rest) e = (e.0, cuts-safe m rest e.1)
   cuts-safe m (Subsume h l) e = tt
 
+  pub closed-safe : Closed d s → (g : Segment) → IsAmong g (segments d s) → Safe g.course
+  closed-safe closed g a = record { never = λ h cs e. closed.never h cs (record { segment = g; listed = a; fails = e }) }
+
   all-safe : Closed d s → Each IsSafe (all_segments d s)
   all-safe closed =
-      let e = of-each IsSafe (segments d s) (λ g a. record { never = λ h cs f. closed.never h cs (record { segment = g; listed = a; fails = f }) }) in
+      let e = of-each IsSafe (segments d s) (closed-safe closed) in
       order-each IsSafe (all_segments d s) e
 
   pub closed-wires : Closed d s → SafeWires

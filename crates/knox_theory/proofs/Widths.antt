@@ -1,17 +1,17 @@
 -- The widest path of a segment bounds what its runs take, and a segment is closed where its numbers are.
-use Rattle.std.proofs.Common.{◌≡◌, ℕ, zero, suc, ◌+◌, ◌-◌, ◌*◌, ◌^◌, ◌<◌, ◌≤◌, ◌⊎◌, inl, inr, max, List, [], ◌∷◌, Bool, true, false, ap, sym, ◌∙◌, subst, arith}
+use Rattle.std.proofs.Common.{refl, ◌≡◌, ℕ, zero, suc, ◌+◌, ◌-◌, ◌*◌, ◌^◌, ◌<◌, ◌≤◌, ◌⊎◌, inl, inr, max, List, [], ◌∷◌, Bool, true, false, ap, sym, ◌∙◌, subst, arith}
 use Rattle.knox_words.specs.Bits.{Bits}
 use Rattle.knox_words.specs.Lists.{total, Words}
 use Rattle.knox_theory.specs.Design.{Design, go}
 use Rattle.knox_theory.specs.Script.{CallHavoc, CallInvariant, CallItems, CallPlace, CallReplace, CallSplit, Close, Cut, Havoc, HostSections, Invariant, Label, Place, Replace, Run, Script, Split, State, Step, Subsume, WireItems}
-use Rattle.knox_theory.specs.Course.{Assume, Check, Course, Done, End, Failed, Mark, run, Safe, Take, takes, Tell}
+use Rattle.knox_theory.specs.Course.{Assume, Check, Course, Done, End, Failed, Mark, run, Safe, Take, takes, Tell, Held, Short, Vacuous}
 use Rattle.knox_theory.specs.WireSegments.{course, cut_course, forks, noted, steps, subsumes, ticked, wire_course}
 use Rattle.knox_theory.specs.HostSegments.{boot_host_course, call_course, call_items, factory_course, moved, rest_course, wait_course}
 use Rattle.knox_theory.specs.Segments.{boot_host_bits, call_bits, call_widest, cut_bits, factory_bits, idle_bits, Segment, segments, widest, wire_bits}
 use Rattle.knox_theory.specs.Closed.{Closed, IsAmong}
 use Rattle.knox_theory.specs.Numbered.{all_below, all_tried, choices_at, is_closed_below, is_unfalsified, Within}
-use Rattle.knox_theory.proofs.Listed.{each-segment, safe-closed}
-use Rattle.knox_theory.proofs.Basics.{and-left, and-right}
+use Rattle.knox_theory.proofs.Listed.{closed-safe, each-segment, safe-closed}
+use Rattle.knox_theory.proofs.Basics.{and-both, and-left, and-right}
 use Rattle.knox_theory.proofs.Covering.{covered}
 
 wider : (t : Course) (b c : ℕ) → b ≤ c → Within t b → Within t c
@@ -151,3 +151,24 @@ module _ {P : Type 0} (d : Design P) (s : Script P) where
   -- a script whose every segment is tried at every number is closed
   pub tried-closed : all_tried (segments d s) ≡ true → Closed d s
   tried-closed e = safe-closed d s (λ g a. closed-below g.course g.choice_bits (segments-within g a) (tried-one (segments d s) g e a))
+
+-- the other way round
+not-failed : (e : End) → ((h : ℕ) → e ≡ Failed h → ⊥) → is_unfalsified e ≡ true
+not-failed Held never = refl
+not-failed Vacuous never = refl
+not-failed (Failed h) never = absurd (never h refl)
+not-failed Short never = refl
+
+all-below : (n : ℕ) (test : ℕ → Bool) → ((k : ℕ) → test k ≡ true) → all_below n test ≡ true
+all-below zero test f = refl
+all-below (suc n) test f = and-both (test n) (all_below n test) (f n) (all-below n test f)
+
+safe-below : (t : Course) (b : ℕ) → Safe t → is_closed_below t b ≡ true
+safe-below t b safe = all-below (2 ^ b) (λ n. is_unfalsified (run t (choices_at t b n))) (λ n. not-failed (run t (choices_at t b n)) (λ h e. safe.never h (choices_at t b n) e))
+
+safe-tried : (gs : List Segment) → ((g : Segment) → IsAmong g gs → Safe g.course) → all_tried gs ≡ true
+safe-tried [] safe = refl
+safe-tried (g ∷ gs) safe = and-both (is_closed_below g.course g.choice_bits) (all_tried gs) (safe-below g.course g.choice_bits (safe g (inl refl))) (safe-tried gs (λ x a. safe x (inr a)))
+
+pub closed-tried : {P : Type 0} (d : Design P) (s : Script P) → Closed d s → all_tried (segments d s) ≡ true
+closed-tried d s closed = safe-tried (segments d s) (closed-safe d s closed)

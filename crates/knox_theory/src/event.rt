@@ -1,6 +1,9 @@
 //! What happens to a device, and what it answers. The definitions of both worlds speak of these types.
+ghost use Rattle.std.specs.Prelude.{◌≡◌, IfOk};
+
 use knox_words::{Word, Words};
 use sqlite_items::Items;
+use std::alloc::{AllocError, Global};
 
 /// What happens to a device, one at a time. An operation, and an input, goes by its number.
 #[derive(Debug, Drop, PartialEq, Eq)]
@@ -39,4 +42,20 @@ pub enum Answer {
 pub struct Trace {
     pub factory: Words,
     pub events: Items<Event>,
+}
+
+impl Event {
+    /// A copy. `Err` is want of memory.
+    pub fn copy(&self, alloc: Global) -> Result<Event, AllocError>
+        ensures { IfOk result (λ e. e ≡ self.now) }
+    {
+        Ok(match self {
+            Event::PowerHost(noise) => Event::PowerHost(noise.copy(alloc)?),
+            Event::PowerWire(noise) => Event::PowerWire(noise.copy(alloc)?),
+            Event::Call(op, args) => Event::Call(*op, args.copy(alloc)?),
+            Event::Set(input, word) => Event::Set(*input, *word),
+            Event::Read => Event::Read,
+            Event::Tick => Event::Tick,
+        })
+    }
 }

@@ -10,9 +10,10 @@ ghost use Rattle.knox_theory.specs.Closed.{Closed, ClosedBelow, IsAmong};
 ghost use Rattle.knox_theory.specs.Numbered.{Covered, Within, all_tried};
 ghost use Rattle.knox_theory.specs.Searched.{SafeFrom, wants};
 
-/// A script is closed where no choices falsify a hint of any of its segments.
+/// A script is closed exactly where no choices falsify a hint of any of its segments.
 pub fn safe_segments_close<P>()
-    ensures { (d : Design P) (s : Script P) → ((g : Segment) → IsAmong g (segments d s) → Safe g.course) → Closed d s }
+    ensures close { (d : Design P) (s : Script P) → ((g : Segment) → IsAmong g (segments d s) → Safe g.course) → Closed d s }
+    ensures alone { (d : Design P) (s : Script P) → Closed d s → (g : Segment) → IsAmong g (segments d s) → Safe g.course }
 {}
 
 /// Where no choices falsify a hint of the segments that stand before one of them, none do of any segment whose number is below its own.
@@ -25,9 +26,10 @@ pub fn choice_bits_bound<P>()
     ensures { (d : Design P) (s : Script P) (g : Segment) → IsAmong g (segments d s) → Within g.course g.choice_bits }
 {}
 
-/// A script whose segments are tried at every number is closed.
+/// A script is closed exactly where its segments are tried at every number with no choices that falsify a hint.
 pub fn trying_all_closes<P>()
-    ensures { (d : Design P) (s : Script P) → all_tried (segments d s) ≡ true → Closed d s }
+    ensures close { (d : Design P) (s : Script P) → all_tried (segments d s) ≡ true → Closed d s }
+    ensures alone { (d : Design P) (s : Script P) → Closed d s → all_tried (segments d s) ≡ true }
 {}
 
 /// Some choices falsify a hint only if those with a number of b bits do, where no path takes more than b bits.
