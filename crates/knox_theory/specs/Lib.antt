@@ -18,3 +18,5 @@ pub mod Traces
 -- Two ways of trying all choices.
 pub mod Numbered
 pub mod Searched
+-- What code tests of answers.
+pub mod Answers
