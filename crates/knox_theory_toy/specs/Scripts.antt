@@ -3,11 +3,13 @@ use Rattle.std.specs.Prelude.{Option, Some, None, ℕ, zero, suc, ◌&&◌, List
 use Rattle.knox_words.specs.Bits.{Bits}
 use Rattle.knox_words.specs.Lists.{Words, same_word}
 use Rattle.knox_theory.specs.Design.{Config, Design}
-use Rattle.knox_theory.specs.Script.{State, Location, Pins, WireItems, Step, Split, Havoc, Label, Cut, Subsume, Run, CallHavoc, Close, HostSections, Script}
+use Rattle.knox_theory.specs.Script.{State, Location, Pins, WireItems, Step, Split, Invariant, Replace, Havoc, Label, Cut, Subsume, CallItems, Run, CallSplit, CallInvariant, CallReplace, CallHavoc, Close, HostSections, Script}
 use Rattle.knox_theory.specs.Course.{Course, Done, End, run}
 use Rattle.knox_theory.specs.Segments.{Segment, segments, wire_segment}
 use Rattle.knox_theory.specs.Closed.{segment_of}
-use Rattle.knox_theory_toy.specs.Toy.{off, at, gated, Left}
+use Rattle.knox_theory.specs.Traces.{trace_of}
+use Rattle.knox_theory.specs.declared.event.Event.{Event}
+use Rattle.knox_theory_toy.specs.Toy.{off, on, at, gated, Left}
 
 abbrev pub last : Words → Bits
 last [] = off
@@ -56,16 +58,11 @@ wire_items =
     (Subsume 14 9)
     (Havoc 15 shown_word (λ p. same_word (last p.taken) (gated (at 2 p.state.cells) (at 0 p.state.cells))) (Subsume 16 11))))))
 
+abbrev pub host_with : CallItems Left → HostSections Left
+host_with items = record { idle = related; factory_hint = 1; boot_host_hint = 2; rest_hint = 3; wait_hint = 4; call_hint = λ o. 5; calls = λ o. items }
+
 abbrev pub host : HostSections Left
-host = record {
-  idle = related;
-  factory_hint = 1;
-  boot_host_hint = 2;
-  rest_hint = 3;
-  wait_hint = 4;
-  call_hint = λ o. 5;
-  calls = λ o. Run 6 1 (CallHavoc 7 junk_cell (λ p. true) Close);
-}
+host = host_with (Run 6 1 (CallHavoc 7 junk_cell (λ p. true) Close))
 
 abbrev pub script_of : WireItems → Script Left
 script_of items = record { refine = related; wire_hint = 8; wire = items; host = Some host }
@@ -85,6 +82,26 @@ looping n = script_of (Label 9 (pins_of (None ∷ None ∷ Some (λ s. at 1 s.ce
 abbrev pub unpinned : (ticks : ℕ) → Script Left
 unpinned n = script_of (Label 9 (λ k. None) (Step 10 n (Subsume 11 9)))
 
+-- Checks of the gate: at power-on and two ticks later, in circuit, emulator and copy. The last is of this word.
+abbrev pub checking : Bits → Script Left
+checking gate =
+    script_of
+    (Label 9 root_pins
+    (Invariant 10 (λ p. same_word (at 2 p.state.cells) off)
+    (Replace 11 (λ p. at 1 p.state.emu ∷ []) (λ p. off ∷ [])
+    (Step 12 2
+    (Replace 13 (λ p. at 0 p.state.copy ∷ []) (λ p. gate ∷ [])
+    (Subsume 14 9))))))
+
+-- A call that is checked apart where the gate is 1: there the body ends within one tick, and the gate is this word; and where the gate is 0, it is 1
+-- after the tick.
+abbrev pub checked_host : Bits → HostSections Left
+checked_host gate =
+    host_with
+    (CallSplit 6 (λ p. same_word (at 2 p.config.cells) on)
+    (Run 7 1 (CallInvariant 8 (λ p. same_word (at 2 p.config.cells) gate) Close))
+    (Run 9 1 (CallReplace 10 (λ p. at 2 p.config.cells ∷ []) (λ p. on ∷ []) Close)))
+
 -- a script without ticks
 abbrev pub idle_script : Script Left
 idle_script = record { refine = related; wire_hint = 8; wire = Cut 9 (λ s. true) (Cut 10 (λ s. true) (Subsume 11 9)); host = None }
@@ -99,6 +116,14 @@ course_of (Some g) = g.course
 
 abbrev pub cut_run : Design Left → Script Left → Words → End
 cut_run d s cs = run (course_of (segment_of 12 (segments d s))) cs
+
+-- the events of the trace of choices of the segment of the cut 11
+abbrev pub cut_events : Design Left → Script Left → Words → List Event
+cut_events d s cs = events_or (segment_of 12 (segments d s))
+  where
+    events_or : Option Segment → List Event
+    events_or None = []
+    events_or (Some g) = (trace_of d [] [] g cs).events
 
 abbrev pub hints_of : List Segment → List ℕ
 hints_of gs = map (λ g. g.hint) gs

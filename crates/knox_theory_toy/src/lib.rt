@@ -9,8 +9,8 @@ ghost use Rattle.knox_theory.specs.Agreement.{Agree, AgreeOnWires};
 ghost use Rattle.knox_theory_toy.specs.Toy.{toy};
 
 pub use runs::{
-    calls_are_told, choices_are_tried, runs_end, segments_are_listed, steps_are_needed,
-    traces_are_told,
+    calls_are_told, choices_are_tried, items_are_checked, runs_end, segments_are_listed,
+    steps_are_needed, traces_are_told,
 };
 pub use worlds::{
     calls_are_answered, dialogue_is_answered, host_refuses, loops_get_stuck, marks_are_kept,
