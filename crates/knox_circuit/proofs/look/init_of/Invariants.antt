@@ -1,0 +1,7 @@
+use Rattle.std.proofs.Common.{◌≡◌}
+use Rattle.knox_circuit.specs.Sorts.{earlier}
+use Rattle.knox_circuit.specs.States.{init_of}
+use Rattle.knox_circuit.proofs.look.init_of.Given as goal
+
+abbrev pub invariant-loop-k : goal.invariant-loop-k
+invariant-loop-k l = l.found ≡ init_of (earlier l.lines l.k) l.number

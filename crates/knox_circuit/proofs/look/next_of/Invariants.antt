@@ -1,0 +1,7 @@
+use Rattle.std.proofs.Common.{◌≡◌}
+use Rattle.knox_circuit.specs.Sorts.{earlier}
+use Rattle.knox_circuit.specs.States.{next_of}
+use Rattle.knox_circuit.proofs.look.next_of.Given as goal
+
+abbrev pub invariant-loop-k : goal.invariant-loop-k
+invariant-loop-k l = l.found ≡ next_of (earlier l.lines l.k) l.number

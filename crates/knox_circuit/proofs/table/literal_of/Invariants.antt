@@ -1,0 +1,7 @@
+use Rattle.std.proofs.Common.{◌≡◌}
+use Rattle.knox_circuit.specs.Sorts.{earlier}
+use Rattle.knox_circuit.specs.Resolved.{literal_of}
+use Rattle.knox_circuit.proofs.table.literal_of.Given as goal
+
+abbrev pub invariant-loop-at : goal.invariant-loop-at
+invariant-loop-at l = l.found ≡ literal_of (earlier l.lines l.at) l.number

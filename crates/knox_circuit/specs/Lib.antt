@@ -1,0 +1,9 @@
+pub mod Sorts
+pub mod Ports
+pub mod Meaning
+pub mod Resolved
+pub mod States
+pub mod Circuit
+pub mod Power
+pub mod Form
+pub mod Whole

@@ -1,0 +1,61 @@
+-- What the nodes of a circuit give. A value is a word at each index: a word that is no array
+-- is the same at each.
+-- Standard: BTOR2 (Niemetz, Preiner, Wolf and Biere, CAV 2018). The project's own: a negative
+-- operand is the complement of its node.
+use Rattle.std.specs.Prelude.{ℕ, ◌+◌, ◌==◌, ℤ, pos, negsuc, List, [], ◌∷◌, length, unwrap_or, if◌then◌else◌}
+use Rattle.knox_words.specs.Bits.{Bits, bits, ite_value, word_at}
+use Rattle.knox_words.specs.Ops.{op1_value, op2_or, slice_or, uext_or, sext_or}
+use Rattle.knox_words.specs.declared.op.Op1.TheVariants.{Not}
+use Rattle.knox_circuit.specs.declared.line.Shape.{Shape}
+use Rattle.knox_circuit.specs.declared.line.Shape.TheVariants as shape
+use Rattle.knox_circuit.specs.declared.line.Line.{Line}
+use Rattle.knox_circuit.specs.Sorts.{literal}
+use Rattle.knox_circuit.specs.Ports.{inputs_of}
+
+abbrev pub zero_word : Bits
+zero_word = bits 1 0
+
+abbrev pub Value : Type 0
+Value = ℕ → Bits
+
+abbrev pub constant : Bits → Value
+constant w k = w
+
+-- the words of the inputs in line order, and the values of the states by number
+pub record Given : Type 0 where
+  pub inputs : List Bits
+  pub held : ℕ → Value
+
+abbrev pub given : List Bits → (ℕ → Value) → Given
+given inputs held = record { inputs = inputs; held = held }
+
+-- the value of an operand
+abbrev pub operand : (ℕ → Value) → ℤ → Value
+operand at (pos n) = at n
+operand at (negsuc n) = λ k. op1_value Not (at (n + 1) k)
+
+-- the word of an operand that is no array
+abbrev pub word : (ℕ → Value) → ℤ → Bits
+word at a = operand at a 0
+
+abbrev pub written : Value → ℕ → Bits → Value
+written v i w k = if k == i then w else v k
+
+-- what a line gives, over what the lines before it give
+abbrev pub level : Given → List Line → (ℕ → Value) → ℕ → Shape → Value
+level g before at n (shape.Input s) = constant (word_at g.inputs (length (inputs_of before)))
+level g before at n (shape.State s) = g.held n
+level g before at n (shape.Un o s a) = constant (op1_value o (word at a))
+level g before at n (shape.Bin o s a b) = constant (op2_or o (word at a) (word at b))
+level g before at n (shape.Slice s a h l) = constant (slice_or (word at a) h l)
+level g before at n (shape.Uext s a m) = constant (uext_or (word at a) m)
+level g before at n (shape.Sext s a m) = constant (sext_or (word at a) m)
+level g before at n (shape.Ite s c a b) = λ k. ite_value (word at c) (operand at a k) (operand at b k)
+level g before at n (shape.Read s a i) = constant (operand at a (word at i).value)
+level g before at n (shape.Write s a i w) = written (operand at a) (word at i).value (word at w)
+level g before at n other = constant (unwrap_or (literal before other) zero_word)
+
+-- the value of node n, over the lines from the last to the first
+abbrev pub value_of : Given → List Line → ℕ → Value
+value_of g [] n = constant zero_word
+value_of g (l ∷ before) n = if l.number == n then level g before (value_of g before) l.number l.shape else value_of g before n

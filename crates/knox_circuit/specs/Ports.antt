@@ -1,0 +1,59 @@
+-- The inputs and outputs of a circuit, and the names of lines.
+-- The project's own: a symbol that begins with `@` names nothing.
+use Rattle.std.specs.Prelude.{ℕ, ◌+◌, ◌==◌, ℤ, pos, negsuc, List, [], ◌∷◌, ◌++◌, Option, Some, None, if◌then◌else◌}
+use Rattle.knox_circuit.specs.declared.line.Shape.{Shape}
+use Rattle.knox_circuit.specs.declared.line.Line.{Line}
+use Rattle.knox_circuit.specs.declared.circuit.Port.{Port}
+use Rattle.knox_circuit.specs.Sorts.{shape_of, sort_named, sort_width, input_sort, output_operand}
+
+-- the name that a symbol gives, or nothing where it begins with `@`
+abbrev pub name_of : List ℕ → List ℕ
+name_of [] = []
+name_of (b ∷ bs) = if b == 64 then [] else b ∷ bs
+
+-- the number of an operand's node
+abbrev pub number_of : ℤ → ℕ
+number_of (pos n) = n
+number_of (negsuc n) = n + 1
+
+abbrev pub width_named : List Line → Option ℕ → ℕ
+width_named before None = 0
+width_named before (Some s) = sort_width before s
+
+abbrev pub shape_width : List Line → Option Shape → ℕ
+shape_width before None = 0
+shape_width before (Some s) = width_named before (sort_named s)
+
+-- the width of the node with a number, or 0
+abbrev pub node_width : List Line → ℕ → ℕ
+node_width before n = shape_width before (shape_of before n)
+
+abbrev pub port : Line → ℕ → Port
+port l width = record { name = name_of l.symbol; number = l.number; width = width }
+
+abbrev pub input_port : List Line → Line → Option ℕ → List Port
+input_port before l None = []
+input_port before l (Some s) = port l (sort_width before s) ∷ []
+
+-- the inputs in line order
+abbrev pub inputs_of : List Line → List Port
+inputs_of [] = []
+inputs_of (l ∷ before) = inputs_of before ++ input_port before l (input_sort l.shape)
+
+abbrev pub output_port : List Line → Line → Option ℤ → List Port
+output_port before l None = []
+output_port before l (Some a) = port l (node_width before (number_of a)) ∷ []
+
+-- the outputs in line order
+abbrev pub outputs_of : List Line → List Port
+outputs_of [] = []
+outputs_of (l ∷ before) = outputs_of before ++ output_port before l (output_operand l.shape)
+
+abbrev pub one_or_none : {A : Type 0} → Option A → List A
+one_or_none None = []
+one_or_none (Some a) = a ∷ []
+
+-- the operands of the outputs in line order
+abbrev pub output_operands : List Line → List ℤ
+output_operands [] = []
+output_operands (l ∷ before) = output_operands before ++ one_or_none (output_operand l.shape)

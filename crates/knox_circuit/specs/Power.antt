@@ -1,0 +1,77 @@
+-- The state of a circuit after its factory and after a power-cycle. States are built in line
+-- order: a kept cell keeps its words; another state gets the value of its `init` over the states
+-- built before it, or its noise words where it has no `init`.
+-- The project's own.
+use Rattle.std.specs.Prelude.{ℕ, ◌==◌, ◌&&◌, ℤ, List, [], ◌∷◌, ◌++◌, take, drop, reverse, length, replicate, Bool, false, Option, Some, None, if◌then◌else◌}
+use Rattle.knox_words.specs.Bits.{Bits, word_at}
+use Rattle.knox_circuit.specs.declared.line.Line.{Line}
+use Rattle.knox_circuit.specs.Meaning.{Value, given, zero_word, constant, operand, value_of}
+use Rattle.knox_circuit.specs.States.{StateLine, size, states_among}
+use Rattle.knox_words.specs.Lists.{fit}
+use Rattle.knox_circuit.specs.Circuit.{value_words, cells_of}
+
+abbrev pub first_keep : List Bool → Bool
+first_keep [] = false
+first_keep (k ∷ ks) = k
+
+-- the words of a state that isn't kept
+abbrev pub fresh_words : List Line → (ℕ → Value) → Option ℕ → Option ℤ → List Bits → List Bits
+fresh_words all held index None noise = take (size index) noise
+fresh_words all held index (Some v) noise = value_words index (operand (value_of (given [] held) all) v)
+
+-- the noise that is left after such a state
+abbrev pub noise_left : Option ℕ → Option ℤ → List Bits → List Bits
+noise_left index None noise = drop (size index) noise
+noise_left index (Some v) noise = noise
+
+-- the values by number, with one more state
+abbrev pub with_state : (ℕ → Value) → ℕ → List Bits → ℕ → Value
+with_state held n words m = if m == n then word_at words else held m
+
+-- the device words, built state after state; `keep` has one truth value per cell
+abbrev pub built : List Line → (ℕ → Value) → List StateLine → List Bool → List Bits → List Bits → List Bits
+built all held [] keep old noise = []
+built all held (s ∷ ss) keep old noise =
+    let kept = s.is_cell && first_keep keep in
+    let words = if kept then take (size s.index) old else fresh_words all held s.index s.init noise in
+    let keep' = if s.is_cell then drop 1 keep else keep in
+    let old' = if s.is_cell then drop (size s.index) old else old in
+    let noise' = if kept then noise else noise_left s.index s.init noise in
+    (if s.is_cell then words else []) ++ built all (with_state held s.number words) ss keep' old' noise'
+
+-- no state has a value before the first is built
+abbrev pub nothing_held : ℕ → Value
+nothing_held n = constant zero_word
+
+abbrev pub states_of : List Line → List StateLine
+states_of lines = states_among (reverse lines) (reverse lines)
+
+-- the state after a power-cycle
+abbrev pub state_after_power : List Line → List Bool → List Bits → List Bits → List Bits
+state_after_power lines keep old noise = built (reverse lines) nothing_held (states_of lines) keep old noise
+
+-- the factory state: nothing is kept
+abbrev pub factory_state : List Line → List Bits → List Bits
+factory_state lines noise = built (reverse lines) nothing_held (states_of lines) [] [] noise
+
+abbrev pub noise_width : Bool → StateLine → List ℕ
+noise_width kept s = widths s.init where
+  widths : Option ℤ → List ℕ
+  widths (Some v) = []
+  widths None = if kept then [] else replicate (size s.index) s.width
+
+-- the widths of the noise words: those of states without `init` that aren't kept, in line order
+abbrev pub noise_widths : List StateLine → List Bool → List ℕ
+noise_widths [] keep = []
+noise_widths (s ∷ ss) keep =
+    noise_width (s.is_cell && first_keep keep) s ++ noise_widths ss (if s.is_cell then drop 1 keep else keep)
+
+-- whether noise words fit a power-cycle that keeps some cells
+abbrev pub fits_noise : List Line → List Bool → List Bits → Bool
+fits_noise lines keep noise =
+    length keep == length (cells_of lines) && fit (noise_widths (states_of lines) keep) noise
+
+-- what a power-cycle keeps of words of one width each, and their first words elsewhere
+abbrev pub kept_words : List Bool → List Bits → List Bits → List Bits
+kept_words keep old [] = []
+kept_words keep old (w ∷ ws) = (if first_keep keep then take 1 old else w ∷ []) ++ kept_words (drop 1 keep) (drop 1 old) ws

@@ -1,0 +1,71 @@
+//! A circuit in the making.
+ghost use Rattle.std.specs.Prelude.{◌≡◌, ◌≢◌, ◌++◌, [], ◌∷◌, reverse, true, false, IfOk, IfErr, OnOk, OnErr, IsTrue};
+ghost use Rattle.knox_circuit.specs.Circuit.{Circuit};
+ghost use Rattle.knox_circuit.specs.Form.{is_line};
+ghost use Rattle.knox_circuit.specs.Whole.{is_complete};
+
+use crate::circuit::{self, Circuit};
+use crate::fault::{BtorFault, Why};
+use crate::form;
+use crate::line::Line;
+use sqlite_items::Items;
+use std::alloc::Global;
+use std::marker::Model;
+
+/// The lines of a circuit so far. Each was tested against those before it.
+#[derive(Drop)]
+pub struct Draft {
+    alloc: Global,
+    lines: Items<Line>,
+}
+
+impl Model for Draft {
+    ghost use Rattle.std.specs.Prelude.{reverse};
+    ghost use Rattle.knox_circuit.specs.Circuit.{Circuit};
+    ghost use Rattle.knox_circuit.specs.Form.{IsInForm};
+
+    ghost Value = { Circuit };
+
+    ghost view = { λ d. record { lines = d.lines } };
+
+    ghost invariant = { λ d. IsInForm (reverse d.lines) };
+}
+
+impl Draft {
+    /// A draft without lines.
+    pub fn new(alloc: Global) -> Draft
+        ensures { result.lines ≡ [] }
+    {
+        Draft {
+            alloc,
+            lines: Items::new(alloc),
+        }
+    }
+
+    /// Adds a line that is one of the form, after the lines so far. A refused line leaves the
+    /// draft as it was.
+    #[tactic(auto, using(crate::proofs::Formed::draft_steps))]
+    pub fn add(&mut self, line: Line) -> Result<(), Why>
+        ensures ok { OnOk result (self.new.lines ≡ self.old.lines ++ line ∷ []) }
+        ensures accepted { OnOk result (IsTrue (is_line (reverse self.old.lines) line)) }
+        ensures err { OnErr result (self.new ≡ self.old) }
+        ensures refused { IfErr result (λ why. why ≢ Why.Memory → is_line (reverse self.old.lines) line ≡ false) }
+    {
+        if !form::is_line(self.lines.as_slice(), &line) {
+            return Err(form::why(self.lines.as_slice(), &line));
+        }
+        self.lines.push(line)?;
+        Ok(())
+    }
+
+    /// The circuit of the lines. Refused where a state isn't a cell with an `init` by a constant.
+    #[tactic(auto, using(crate::proofs::Formed::draft_steps))]
+    pub fn finish(self) -> Result<Circuit, BtorFault>
+        ensures ok { IfOk result (λ c. c.lines ≡ self.lines) }
+        ensures complete { IfOk result (λ c. is_complete (reverse self.lines) ≡ true) }
+        ensures refused { IfErr result (λ fault. fault.why ≢ Why.Memory → is_complete (reverse self.lines) ≡ false) }
+    {
+        let Draft { alloc, lines } = self;
+        circuit::make(alloc, lines)
+    }
+}

@@ -1,0 +1,21 @@
+//! Circuits in BTOR2: their lines, and what they mean. A circuit is made line by line by a
+//! `Draft`; `specs/Meaning.antt` defines the value of a node, `specs/Circuit.antt` outputs and
+//! ticks, `specs/Power.antt` what power-cycles do. Evaluation takes no memory.
+#![tactic(auto)]
+
+mod circuit;
+mod draft;
+mod eval;
+mod fault;
+mod first;
+mod form;
+mod line;
+mod look;
+mod node;
+mod power;
+mod table;
+
+pub use circuit::{Cell, Circuit, Inputs, Noise, Port, Scratch, State};
+pub use draft::Draft;
+pub use fault::{BtorFault, Why};
+pub use line::{Line, Shape};
