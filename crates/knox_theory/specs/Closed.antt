@@ -31,6 +31,7 @@ abbrev pub StartsRefined : {P : Type 0} → Design P → Script P → Type 0
 StartsRefined d s =
     (noise : Words) → fit d.device.factory_noise noise ≡ true → s.refine d.device.initial (d.device.persistent_of (d.device.factory noise)) d.device.first_kept ≡ true
 
+-- whether a hint is one of these
 abbrev pub is_hint_of : ℕ → List ℕ → Bool
 is_hint_of h [] = false
 is_hint_of h (k ∷ ks) = if h == k then true else is_hint_of h ks

@@ -71,7 +71,7 @@ pub data Kind : Type 0 where
   OfBootHost : Kind
   OfRest : Kind
   OfWait : Kind
-  OfCall : (name : ℕ) → Kind
+  OfCall : (op : ℕ) → Kind
   OfWire : Kind
   -- with the ticks of the steps before the cut on its path
   OfCut : (ticks : ℕ) → Kind

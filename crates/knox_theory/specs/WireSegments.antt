@@ -1,5 +1,6 @@
 -- The segments of `wire` and of its cuts as courses: what each item checks, in which order words are taken, and when a subsume holds.
 -- The project's own. Nobody has to believe it for a yes. Who is told of choices that falsify a hint must believe it, since it says what was checked there.
+-- In a case h is the item's hint, c its condition, x its location, rest the items after it; p is the place of the run.
 use Rattle.std.specs.Prelude.{ℕ, zero, suc, ◌+◌, ◌*◌, ◌==◌, ◌&&◌, Option, Some, None, [], ◌∷◌, ◌++◌, length, Bool, true, false, if◌then◌else◌}
 use Rattle.knox_words.specs.Bits.{Bits}
 use Rattle.knox_words.specs.Lists.{Words, same_words}
@@ -8,10 +9,11 @@ use Rattle.knox_theory.specs.Design.{Design}
 use Rattle.knox_theory.specs.Course.{Entered, Turned, Ticking, Course, Check, Assume, Take, Mark, Tell, Done, Arrival, Reached, Missed, reach, takes}
 use Rattle.knox_theory.specs.Script.{State, Place, Pins, WireItems, Step, Split, Invariant, Replace, Havoc, Label, Cut, Subsume, Script}
 
--- a place with more words taken
+-- this state, with more words taken
 abbrev pub noted : State → Words → Words → Place
 noted s taken ws = record { state = s; taken = taken ++ ws }
 
+-- equal in every field, device, emulator and copy word
 abbrev pub same_state : State → State → Bool
 same_state a b = same_words a.fields b.fields && (same_words a.cells b.cells && (same_words a.emu b.emu && same_words a.copy b.copy))
 
@@ -21,10 +23,11 @@ ticked d s i =
     let t = answered d.device s.fields (d.device.emu_tick s.emu s.copy i) in
     record { fields = t.fields; cells = d.device.tick s.cells i; emu = t.emu; copy = t.copy }
 
+-- the outputs of circuit and emulator are equal under these inputs
 abbrev pub same_outs : {P : Type 0} → Design P → State → Words → Bool
 same_outs d s i = same_words (d.device.outs s.cells i) (d.device.emu_outs s.emu s.copy i)
 
--- refine of a state
+-- `refine` of a state, over the words that the emulator keeps
 abbrev pub is_refined : {P : Type 0} → Design P → Script P → State → Bool
 is_refined d s p = s.refine p.fields (d.device.persistent_of p.cells) (d.device.kept_of p.emu)
 
@@ -32,7 +35,7 @@ is_refined d s p = s.refine p.fields (d.device.persistent_of p.cells) (d.device.
 abbrev pub enters : Bool → Course → Course
 enters ok rest = Assume ok (Tell Entered rest)
 
--- n ticks of hint h, and what follows
+-- n ticks of hint h, and what follows: at each a word for each input, then outputs under them, then `refine` after the tick
 abbrev pub steps : {P : Type 0} → Design P → Script P → ℕ → ℕ → Place → (Place → Course) → Course
 steps d s h zero p rest = rest p
 steps d s h (suc n) p rest =
@@ -42,11 +45,12 @@ steps d s h (suc n) p rest =
     (Check (is_refined d s (ticked d p.state i)) h
     (steps d s h n (noted (ticked d p.state i) p.taken i) rest))))
 
+-- a split, by its outcome
 abbrev pub forks : Bool → Course → Course → Course
 forks true a b = Tell (Turned true) a
 forks false a b = Tell (Turned false) b
 
--- The course of items from a place on. `passes` says whether a subsume of a hint holds at a place.
+-- The course of items from a place on. `passes` says whether a subsume of a hint holds at a place. The condition of a havoc is of the state before it.
 abbrev pub course : {P : Type 0} → Design P → Script P → (ℕ → Place → Bool) → WireItems → Place → Course
 course d s passes (Step h n rest) p = steps d s h n p (λ q. course d s passes rest q)
 course d s passes (Split h t a b) p = forks (t p) (course d s passes a p) (course d s passes b p)
@@ -95,6 +99,7 @@ pub data Target : Type 0 where
   ToCut : (holds : State → Bool) → Target
   ToLabel : (places : ℕ) (pins : Pins) (segment : Course) → Target
 
+-- the first that is there
 abbrev pub either : Target → Target → Target
 either Absent b = b
 either (ToCut c) b = ToCut c
@@ -126,19 +131,23 @@ abbrev pub tail : Words → Words
 tail [] = []
 tail (w ∷ ws) = ws
 
+-- the present value at a pin, or where there is none the word that was taken
 abbrev pub pinned : Option (State → Bits) → State → Bits → Bits
 pinned None p w = w
 pinned (Some get) p w = get p
 
--- One word for each of n places, from place k on: a pinned place gets the present value, any other the word that the present run took there.
+-- The rebased choices, one word for each of n places from place k on: a pinned place gets the present value, any other the word that the present run
+-- took there. Where it took none, the word has width 0, which no run takes.
 abbrev pub rebased : (k n : ℕ) → Pins → State → (taken : Words) → Words
 rebased k zero pins p taken = []
 rebased k (suc n) pins p taken = pinned (pins k) p (head_or (record { width = 0; value = 0 }) taken) ∷ rebased (suc k) n pins p (tail taken)
 
+-- a run came to the label in the present state
 abbrev pub arrives : Arrival → State → Bool
 arrives (Reached q) p = same_state q.state p
 arrives Missed p = false
 
+-- whether a subsume of hint l holds, by what l stands for
 abbrev pub passed : ℕ → Target → Place → Bool
 passed l Absent p = false
 passed l (ToCut c) p = c p.state
