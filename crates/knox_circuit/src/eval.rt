@@ -1,6 +1,6 @@
 //! The words of nodes, filled into a scratch area from the first node to the last.
 ghost use Rattle.std.specs.Prelude.{◌≡◌, ◌≤◌, ◌<◌, ◌+◌, length, slice_get, map, Some};
-ghost use Rattle.knox_words.specs.Bits.{word_at, ite_value};
+ghost use Rattle.knox_words.specs.Bits.{word_at};
 ghost use Rattle.knox_circuit.specs.Resolved.{lists, arg_word, node_word, at_place, IsFilled};
 
 use crate::node::{Arg, Node};
@@ -70,19 +70,12 @@ fn node_word(nodes: &[Node], inputs: &[Word], state: &[Word], room: &[Word], at:
             arg_word(nodes, inputs, state, room, at, a),
             arg_word(nodes, inputs, state, room, at, b),
         ),
-        Node::Ite(c, a, b) => chosen(
+        Node::Ite(c, a, b) => knox_words::choose(
             arg_word(nodes, inputs, state, room, at, c),
             arg_word(nodes, inputs, state, room, at, a),
             arg_word(nodes, inputs, state, room, at, b),
         ),
     }
-}
-
-/// The second word where the first is 1, else the third.
-fn chosen(c: Word, a: Word, b: Word) -> Word
-    ensures { result ≡ ite_value c a b }
-{
-    if c.value() == 1 { a } else { b }
 }
 
 /// Fills a scratch area from the first node to the last.
