@@ -4,3 +4,4 @@ pub mod WidthLemmas
 pub mod StmtLemmas
 pub mod OperationLemmas
 pub mod TypingLemmas
+pub mod FieldLemmas

@@ -15,7 +15,7 @@ use Rattle.knox_lang.specs.declared.scope.Spaces.{Spaces}
 use Rattle.knox_lang.specs.Scope.{put_in, scope}
 use Rattle.knox_lang.specs.Eval.{eval, values, called}
 use Rattle.knox_lang.specs.Exec.{Answering, Does, in_order, turns, asks, stmt_level, does, does_all}
-use Rattle.knox_lang.specs.Typing.{Widths, is_width, turns_fit, widths_under, same_widths, width_of, Obeys, Leave, is_location, takes, stores, read_width, all_obey, obeys_under, query_fits, stmt_fits_level, stmt_fits, stmts_fit, SpacesFit, FunsGive, AnswersFit, Fine}
+use Rattle.knox_lang.specs.Typing.{Widths, is_width, turns_fit, widths_under, same_widths, width_of, Obeys, Leave, is_location, takes, stores, read_width, widths_of, all_obey, obeys_under, query_fits, stmt_fits_level, stmt_fits, stmts_fit, SpacesFit, FunsGive, AnswersFit, Fine}
 use Rattle.knox_lang.proofs.WidthLemmas.{and_first, and_second, is_width-true, get-some, read-at, bound-fits, Turns, turns_fit-true, turn-fits, same-parts, eval-has}
 
 -- a word is replaced by one of its width
@@ -65,6 +65,10 @@ put-taken ws sp s w a at p h =
 not-both : (b : Bool) → b && false ≡ true → ⊥
 not-both true h = cc
 not-both false h = cc
+
+location-widths : (ws : Widths) (vs : List ℕ) (s : Space) → is_location s ≡ true → widths_of ws vs s ≡ ws s
+location-widths ws vs Bound h = cc
+location-widths ws vs s h = refl
 
 under-obey : (os : List Obeys) (vs : List ℕ) (w : ℕ) → obeys_under os vs w ≡ true → all_obey os (vs ++ w ∷ []) ≡ true
 under-obey os vs w e = by_test (nat_lt (length vs) 256) e
@@ -130,12 +134,14 @@ module _ (A : Type 0) (q : Answering A) (funs : List Fun) (ws : Widths) (leave :
       }
 
   store-keeps : (s : Slot) (i e : Expr) (vs : List ℕ) (sp : Spaces) (bound : List Bits) (o p : Option ℕ) → SpacesFit ws sp → fit vs bound ≡ true →
-      width_of funs (length funs) ws i vs ≡ o → width_of funs (length funs) ws e vs ≡ p → stores ws s o p ≡ true →
+      width_of funs (length funs) ws i vs ≡ o → width_of funs (length funs) ws e vs ≡ p → stores ws vs s o p ≡ true →
       SpacesFit ws (put_in sp s.space (s.number + (eval (called funs) i (scope sp bound)).value) (eval (called funs) e (scope sp bound)))
   store-keeps s i e vs sp bound o None h g is_i is_e ok = cc
   store-keeps s i e vs sp bound None (Some w) h g is_i is_e ok = absurd (not-both (is_location s.space) ok)
   store-keeps s i e vs sp bound (Some x) (Some w) h g is_i is_e ok =
-      let read : read_width (ws s.space) s.number (Some x) ≡ Some w = is_width-true (read_width (ws s.space) s.number (Some x)) w (and_second (is_location s.space) (is_width (read_width (ws s.space) s.number (Some x)) w) ok) in
+      let there : is_location s.space ≡ true = and_first (is_location s.space) (is_width (read_width (widths_of ws vs s.space) s.number (Some x)) w) ok in
+      let found : read_width (widths_of ws vs s.space) s.number (Some x) ≡ Some w = is_width-true (read_width (widths_of ws vs s.space) s.number (Some x)) w (and_second (is_location s.space) (is_width (read_width (widths_of ws vs s.space) s.number (Some x)) w) ok) in
+      let read : read_width (ws s.space) s.number (Some x) ≡ Some w = subst (λ (us : List ℕ). read_width us s.number (Some x) ≡ Some w) (location-widths ws vs s.space there) found in
       let index : fits x (eval (called funs) i (scope sp bound)) ≡ true = value-fits i vs sp bound x h g is_i in
       let r = read-at (ws s.space) s.number x (eval (called funs) i (scope sp bound)).value w read (fits-below x (eval (called funs) i (scope sp bound)) index) in
       put-fits ws sp s.space (s.number + (eval (called funs) i (scope sp bound)).value) (eval (called funs) e (scope sp bound))

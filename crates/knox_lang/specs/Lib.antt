@@ -5,3 +5,4 @@ pub mod Exec
 pub mod Operation
 pub mod Typing
 pub mod WellFormed
+pub mod Rules

@@ -179,9 +179,9 @@ takes ws s None = false
 takes ws s (Some w) = is_location s.space && is_width (slice_get (ws s.space) s.number) w
 
 -- whether a word of the second width can be put into the array there, which has the first as index width
-abbrev pub stores : Widths → Slot → Option ℕ → Option ℕ → Bool
-stores ws s i None = false
-stores ws s i (Some w) = is_location s.space && is_width (read_width (ws s.space) s.number i) w
+abbrev pub stores : Widths → List ℕ → Slot → Option ℕ → Option ℕ → Bool
+stores ws vs s i None = false
+stores ws vs s i (Some w) = is_location s.space && is_width (read_width (widths_of ws vs s.space) s.number i) w
 
 abbrev pub all_obey : List Obeys → Obeys
 all_obey [] vs = true
@@ -202,7 +202,7 @@ input_fits _ _ = false
 -- one level of a statement, over whether its parts obey the rules
 abbrev pub stmt_fits_level : List Fun → Widths → Leave → Stmt-F Obeys → Obeys
 stmt_fits_level funs ws leave (Stmt-F.Assign s e) vs = takes ws s (width_of funs (length funs) ws e vs)
-stmt_fits_level funs ws leave (Stmt-F.Store s i e) vs = stores ws s (width_of funs (length funs) ws i vs) (width_of funs (length funs) ws e vs)
+stmt_fits_level funs ws leave (Stmt-F.Store s i e) vs = stores ws vs s (width_of funs (length funs) ws i vs) (width_of funs (length funs) ws e vs)
 stmt_fits_level funs ws leave (Stmt-F.If c as' bs) vs = is_width (width_of funs (length funs) ws c vs) 1 && (all_obey as' vs && all_obey bs vs)
 stmt_fits_level funs ws leave (Stmt-F.For w n body) vs = turns_fit w n && obeys_under body vs w
 stmt_fits_level funs ws leave (Stmt-F.While c n body) vs = leave.ticks && (is_width (width_of funs (length funs) ws c vs) 1 && (nat_le n 1000000 && all_obey body vs))

@@ -8,12 +8,15 @@ mod execute;
 mod expr;
 mod laws;
 mod measured;
+mod obey;
 mod operate;
 mod parts;
 mod program;
 mod queries;
+mod rules;
 mod scope;
 mod typing;
+mod well_formed;
 
 pub use evaluate::{eval, eval_in};
 pub use execute::exec_in;
@@ -26,3 +29,4 @@ pub use program::{
 };
 pub use queries::{NoQueries, Queries};
 pub use scope::{Scope, Spaces};
+pub use well_formed::{fits_driver_parts, fits_spec};
