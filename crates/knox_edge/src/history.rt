@@ -39,11 +39,6 @@ impl History {
         }
     }
 
-    /// The allocator that the texts are kept with.
-    pub fn alloc(&self) -> Global {
-        self.alloc
-    }
-
     /// How many names were asked.
     pub fn asked(&self) -> usize
         ensures { result ≡ length self.now.names }
