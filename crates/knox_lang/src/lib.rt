@@ -29,4 +29,4 @@ pub use program::{
 };
 pub use queries::{NoQueries, Queries};
 pub use scope::{Scope, Spaces};
-pub use well_formed::{fits_driver_parts, fits_spec};
+pub use well_formed::{fits_driver_parts, fits_emu_parts, fits_spec};

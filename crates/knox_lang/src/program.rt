@@ -11,9 +11,16 @@ use std::alloc::{AllocError, Global};
 use std::marker::Model;
 
 /// A specification: fields, functions and operations.
-#[derive(Drop)]
 pub struct SpecProgram {
     parts: SpecParts,
+}
+
+// The programs' drops are written out, so that letting one go is proved here once and not by every
+// crate above.
+impl Drop for SpecProgram {
+    fn drop(self) {
+        let SpecProgram { parts: _parts } = self;
+    }
 }
 
 impl Model for SpecProgram {
@@ -30,9 +37,14 @@ impl Model for SpecProgram {
 }
 
 /// A driver: which cells are persistent, the idle inputs, and a body for each operation.
-#[derive(Drop)]
 pub struct DriverProgram {
     parts: DriverParts,
+}
+
+impl Drop for DriverProgram {
+    fn drop(self) {
+        let DriverProgram { parts: _parts } = self;
+    }
 }
 
 impl Model for DriverProgram {
@@ -50,9 +62,14 @@ impl Model for DriverProgram {
 
 /// An emulator: fields, perhaps a copy of the circuit, what it does at power-on and at a tick,
 /// and its outputs.
-#[derive(Drop)]
 pub struct EmuProgram {
     parts: EmuParts,
+}
+
+impl Drop for EmuProgram {
+    fn drop(self) {
+        let EmuProgram { parts: _parts } = self;
+    }
 }
 
 impl Model for EmuProgram {
