@@ -72,11 +72,21 @@ impl Model for Scratch {
 }
 
 /// A circuit: lines that a `Draft` took, with what was resolved of them once.
-#[derive(Drop)]
 pub struct Circuit {
     alloc: Global,
     lines: Items<Line>,
     tables: Tables,
+}
+
+// Written out, so that letting a circuit go is proved here once and not by every crate above.
+impl Drop for Circuit {
+    fn drop(self) {
+        let Circuit {
+            alloc: _alloc,
+            lines: _lines,
+            tables: _tables,
+        } = self;
+    }
 }
 
 impl Model for Circuit {
@@ -188,12 +198,21 @@ impl Circuit {
         );
     }
 
+    /// The number of device words: the words of all cells.
+    #[tactic(auto, using(crate::proofs::Evaluated::whole_lengths))]
+    pub fn word_count(&self) -> usize
+        ensures { result ≡ words_in (cells_of self.now.lines) }
+    {
+        self.tables.next_args.len()
+    }
+
     /// One clock edge: every cell takes the value of its `next` at once.
     #[tactic(auto, using(crate::proofs::Evaluated::whole_lengths, crate::proofs::Evaluated::evaluations))]
     pub fn tick(&self, s: &mut State, i: &Inputs, room: &mut Scratch)
         requires room { room.old ≡ sizes_of self.now.lines }
         requires state { length s.old.words ≡ words_in (cells_of self.now.lines) }
         ensures state { s.new.words ≡ state_after_tick self.now.lines s.old.words i.now.words }
+        ensures count { length s.new.words ≡ words_in (cells_of self.now.lines) }
         ensures room { room.new ≡ room.old }
     {
         let nodes = self.tables.nodes.as_slice();
@@ -252,7 +271,8 @@ impl Circuit {
     /// The factory state.
     #[tactic(auto, using(crate::proofs::Powered::power_steps))]
     pub fn factory(&self, n: &Noise) -> Result<State, AllocError>
-        ensures { IfOk result (λ s. s.words ≡ factory_state self.now.lines n.now.words) }
+        ensures words { IfOk result (λ s. s.words ≡ factory_state self.now.lines n.now.words) }
+        ensures count { IfOk result (λ s. length s.words ≡ words_in (cells_of self.now.lines)) }
     {
         let _noise = &n.words;
         let words = self.tables.first_words.copy(self.alloc)?;
@@ -264,7 +284,8 @@ impl Circuit {
     pub fn power(&self, keep: &[bool], s: &State, n: &Noise) -> Result<State, AllocError>
         requires keep { length keep.now ≡ length (cells_of self.now.lines) }
         requires state { length s.now.words ≡ words_in (cells_of self.now.lines) }
-        ensures { IfOk result (λ after. after.words ≡ state_after_power self.now.lines keep.now s.now.words n.now.words) }
+        ensures words { IfOk result (λ after. after.words ≡ state_after_power self.now.lines keep.now s.now.words n.now.words) }
+        ensures count { IfOk result (λ after. length after.words ≡ words_in (cells_of self.now.lines)) }
     {
         let _noise = &n.words;
         let words = power::kept_words(

@@ -21,7 +21,8 @@ pub fn kept_words(
 ) -> Result<Words, AllocError>
     requires keep { length keep.now ≡ length first.now }
     requires old { length old.now ≡ length first.now }
-    ensures { IfOk result (λ words. words ≡ kept_words keep.now old.now first.now) }
+    ensures words { IfOk result (λ words. words ≡ kept_words keep.now old.now first.now) }
+    ensures count { IfOk result (λ words. length words ≡ length first.now) }
 {
     let mut words = Words::new(alloc);
     for k in 0..first.len() {
