@@ -5,6 +5,8 @@
 mod keyword;
 mod operands;
 mod reading;
+#[cfg(test)]
+mod tests;
 mod tokens;
 
 pub use reading::read_circuit;
