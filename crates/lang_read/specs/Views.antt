@@ -1,0 +1,83 @@
+-- What a tree is at its top. Reading gives a value, or the first fault: a fault is the earliest in
+-- the text, so that what stands before is read before.
+use Rattle.std.specs.Prelude.{◌≡◌, ◌&&◌, ℕ, nat_le, Bool, true, false, if◌then◌else◌, List, codes, Result, Ok, Err}
+use Rattle.std.specs.Str.{bytes_eq}
+use Rattle.knox_text.specs.declared.place.Place.{Place}
+use Rattle.knox_sexpr.specs.declared.tree.Tree.{Tree, out-Tree}
+use Rattle.knox_sexpr.specs.declared.tree.Tree.TheOpen.{Tree-F}
+use Rattle.lang_read.specs.declared.fault.LangWhy.{LangWhy}
+use Rattle.lang_read.specs.declared.fault.LangWhy.TheVariants.{Form, UnknownName, Twice, Width, Arity, Bound, Missing, Memory}
+use Rattle.lang_read.specs.declared.fault.LangFault.{LangFault}
+
+infixl 10 ◌>>=◌
+abbrev pub ◌>>=◌ : {A B : Type 0} → Result A LangFault → (A → Result B LangFault) → Result B LangFault
+(Ok x) >>= f = f x
+(Err e) >>= f = Err e
+
+abbrev pub fails : {A : Type 0} → Place → LangWhy → Result A LangFault
+fails at why = Err (record { place = at; why = why })
+
+-- What a function returned is what reading gives, unless memory ran out.
+abbrev pub Fails : {A : Type 0} → LangWhy → LangFault → Result A LangFault → Type 0
+Fails Memory f read = Unit {0}
+Fails Form f read = read ≡ Err f
+Fails UnknownName f read = read ≡ Err f
+Fails Twice f read = read ≡ Err f
+Fails Width f read = read ≡ Err f
+Fails Arity f read = read ≡ Err f
+Fails Bound f read = read ≡ Err f
+Fails Missing f read = read ≡ Err f
+
+abbrev pub Gives : {A : Type 0} → Result A LangFault → Result A LangFault → Type 0
+Gives (Ok x) read = read ≡ Ok x
+Gives (Err f) read = Fails f.why f read
+
+-- the same of what is seen of it
+abbrev pub Sees : {X Y : Type 0} → (X → Y) → Result X LangFault → Result Y LangFault → Type 0
+Sees view (Ok x) read = read ≡ Ok (view x)
+Sees view (Err f) read = Fails f.why f read
+
+abbrev pub place_in : Tree-F Tree → Place
+place_in (Tree-F.Atom at word) = at
+place_in (Tree-F.Number at width value) = at
+place_in (Tree-F.List at parts close) = at
+
+abbrev pub place_of : Tree → Place
+place_of t = place_in (out-Tree t)
+
+-- the value of a number, however it is written
+abbrev pub number_in : Tree-F Tree → Result ℕ LangFault
+number_in (Tree-F.Atom at word) = fails at Form
+number_in (Tree-F.Number at width value) = Ok value
+number_in (Tree-F.List at parts close) = fails at Form
+
+abbrev pub number_of : Tree → Result ℕ LangFault
+number_of t = number_in (out-Tree t)
+
+-- The widths of the form that is read today.
+abbrev pub is_width : ℕ → Bool
+is_width w = nat_le 1 w && nat_le w 8
+
+-- the width that a tree gives
+abbrev pub width_of : Tree → Result ℕ LangFault
+width_of t = do
+  w ← number_of t
+  if is_width w then Ok w else fails (place_of t) Width
+
+-- the bytes of a symbol
+abbrev pub symbol_in : Tree-F Tree → Result (List ℕ) LangFault
+symbol_in (Tree-F.Atom at word) = Ok word
+symbol_in (Tree-F.Number at width value) = fails at Form
+symbol_in (Tree-F.List at parts close) = fails at Form
+
+abbrev pub symbol_of : Tree → Result (List ℕ) LangFault
+symbol_of t = symbol_in (out-Tree t)
+
+-- the parts of a list
+abbrev pub parts_in : Tree-F Tree → Result (List Tree) LangFault
+parts_in (Tree-F.Atom at word) = fails at Form
+parts_in (Tree-F.Number at width value) = fails at Form
+parts_in (Tree-F.List at parts close) = Ok parts
+
+abbrev pub parts_of : Tree → Result (List Tree) LangFault
+parts_of t = parts_in (out-Tree t)
