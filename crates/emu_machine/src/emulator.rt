@@ -1,0 +1,163 @@
+//! The emulator's outputs and its tick.
+ghost use Rattle.std.specs.Prelude.{◌≡◌, [], ◌∷◌, ◌++◌, map, IfOk, OnOk, OnErr};
+ghost use Rattle.knox_lang.specs.Operation.{start_of};
+ghost use Rattle.knox_lang.specs.Scope.{scope};
+ghost use Rattle.knox_lang.specs.Eval.{eval, values, called};
+ghost use Rattle.emu_machine.specs.Emulator.{body_words, emulator_outputs, emulator_after_tick, fields_after_tick};
+
+use crate::answer::Answers;
+use knox_lang::{EmuProgram, Expr, Fun, Spaces, SpecProgram, SpecState};
+use knox_words::{Word, Words};
+use sqlite_items::Items;
+use std::alloc::{AllocError, Global};
+use std::mem;
+
+/// Room for the emulator's outputs and ticks. It is kept from one to the next, so that they take
+/// no memory of their own once it has grown.
+#[derive(Drop)]
+pub struct EmuRoom {
+    own: Words,
+    input: Words,
+    local: Words,
+    fields: Words,
+    bound: Words,
+}
+
+/// The values of some expressions over the words of the spaces.
+fn values_into(
+    alloc: Global,
+    es: &[Expr],
+    funs: &[Fun],
+    spaces: &Spaces,
+    bound: &mut Words,
+    out: &mut Words,
+) -> Result<(), AllocError>
+    ensures out { OnOk result (out.new ≡ values (map (eval (called funs.now)) es.now) (scope spaces.now bound.old)) }
+    ensures bound { bound.new ≡ bound.old }
+{
+    out.clear();
+    for e in es {
+        let word = knox_lang::eval_in(alloc, e, funs, spaces, bound)?;
+        out.push(word)?;
+    }
+    Ok(())
+}
+
+/// The zero words of the widths of locals.
+fn start_into(locals: &[(Items<u8>, u8)], out: &mut Words) -> Result<(), AllocError>
+    ensures { OnOk result (out.new ≡ start_of locals.now) }
+{
+    out.clear();
+    for local in locals {
+        out.push(knox_words::word_or(local.1, 0))?;
+    }
+    Ok(())
+}
+
+impl EmuRoom {
+    /// Room that has to grow yet.
+    pub fn new(alloc: Global) -> EmuRoom {
+        EmuRoom {
+            own: Words::new(alloc),
+            input: Words::new(alloc),
+            local: Words::new(alloc),
+            fields: Words::new(alloc),
+            bound: Words::new(alloc),
+        }
+    }
+
+    /// The words that a body sees, in the buffers of this room.
+    fn spaces(
+        &mut self,
+        alloc: Global,
+        emu: &[Word],
+        ins: &[Word],
+        locals: &[(Items<u8>, u8)],
+    ) -> Result<Spaces, AllocError>
+        ensures { IfOk result (λ sp. sp ≡ body_words emu.now ins.now (start_of locals.now)) }
+    {
+        let mut spaces = Spaces::new(alloc);
+        mem::swap(&mut spaces.own, &mut self.own);
+        mem::swap(&mut spaces.input, &mut self.input);
+        mem::swap(&mut spaces.local, &mut self.local);
+        spaces.own.copy_from(emu)?;
+        spaces.input.copy_from(ins)?;
+        start_into(locals, &mut spaces.local)?;
+        Ok(spaces)
+    }
+
+    /// Takes the buffers back.
+    fn keep(&mut self, spaces: Spaces) {
+        let mut spaces = spaces;
+        mem::swap(&mut spaces.own, &mut self.own);
+        mem::swap(&mut spaces.input, &mut self.input);
+        mem::swap(&mut spaces.local, &mut self.local);
+    }
+
+    /// The outputs that an emulator shows, in line order, for its words and those of the inputs.
+    pub fn outputs(
+        &mut self,
+        alloc: Global,
+        p: &EmuProgram,
+        emu: &[Word],
+        ins: &[Word],
+        out: &mut Words,
+    ) -> Result<(), AllocError>
+        ensures { OnOk result (out.new ≡ emulator_outputs p.now emu.now ins.now) }
+    {
+        let parts = p.parts();
+        let spaces = self.spaces(alloc, emu, ins, &[])?;
+        self.bound.clear();
+        values_into(
+            alloc,
+            parts.outputs.as_slice(),
+            parts.funs.as_slice(),
+            &spaces,
+            &mut self.bound,
+            out,
+        )?;
+        self.keep(spaces);
+        Ok(())
+    }
+
+    /// A tick: the emulator's words and the specification's fields after it. Want of memory leaves
+    /// both as they were.
+    pub fn tick(
+        &mut self,
+        alloc: Global,
+        s: &SpecProgram,
+        p: &EmuProgram,
+        fields: &mut Words,
+        emu: &mut Words,
+        ins: &[Word],
+    ) -> Result<(), AllocError>
+        ensures emu { OnOk result (emu.new ≡ emulator_after_tick s.now p.now fields.old emu.old ins.now) }
+        ensures fields { OnOk result (fields.new ≡ fields_after_tick s.now p.now fields.old emu.old ins.now) }
+        ensures err { OnErr result ((emu.new ≡ emu.old) × (fields.new ≡ fields.old)) }
+    {
+        let parts = p.parts();
+        let mut spaces = self.spaces(alloc, emu.as_slice(), ins, parts.tick.locals.as_slice())?;
+        let mut words = Words::new(alloc);
+        mem::swap(&mut words, &mut self.fields);
+        words.copy_from(fields.as_slice())?;
+        let mut asked = Answers {
+            program: s,
+            state: SpecState { words },
+        };
+        self.bound.clear();
+        knox_lang::exec_in(
+            alloc,
+            parts.tick.stmts.as_slice(),
+            parts.funs.as_slice(),
+            &mut spaces,
+            &mut self.bound,
+            &mut asked,
+        )?;
+        mem::swap(emu, &mut spaces.own);
+        let Answers { program: _, state } = asked;
+        let SpecState { words } = state;
+        self.fields = mem::replace(fields, words);
+        self.keep(spaces);
+        Ok(())
+    }
+}

@@ -1,0 +1,14 @@
+//! Devices: a circuit, a specification, a driver and an emulator that fit each other, and what the
+//! emulator shows and does. Start at `Device`; `specs/Emulator.antt` defines the emulator's
+//! outputs and its tick.
+#![tactic(auto)]
+
+mod answer;
+mod device;
+mod emulator;
+mod fits;
+mod state;
+
+pub use device::Device;
+pub use emulator::EmuRoom;
+pub use state::{EmuState, emu_power, emu_read, emu_tick};
