@@ -1,0 +1,5 @@
+use Rattle.std.proofs.Common.{◌≡◌}
+use Rattle.script_core.proofs.run.run_ticks.Given as goal
+
+abbrev pub invariant-loop : goal.invariant-loop
+invariant-loop l = l.room ≡ l.fn.room

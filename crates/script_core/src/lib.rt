@@ -1,0 +1,19 @@
+//! Scripts of hints: their segments, the runs of a segment over words, and deciding a segment by
+//! trying all choices. Start at `Script` and `check`.
+#![tactic(auto)]
+
+mod decide;
+mod parts;
+mod room;
+mod run;
+mod script;
+mod start;
+mod widths;
+
+pub use decide::{Checked, check};
+pub use parts::{Act, Choices, HintNo, Item, Kind, ScriptParts, Section, SegmentNo};
+pub use room::Room;
+pub use run::{ScriptEnd, run_choices};
+pub use script::{Script, fits_script};
+pub use start::starts_refined;
+pub use widths::choice_bits;
