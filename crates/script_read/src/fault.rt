@@ -1,0 +1,74 @@
+//! What is wrong with a text of hints, and where.
+ghost use Rattle.std.specs.Prelude.{◌≡◌};
+ghost use Rattle.script_read.specs.declared.fault.ScriptWhy.TheVariants.{Memory};
+
+use knox_text::Place;
+use lang_read::{LangFault, LangWhy};
+use std::alloc::AllocError;
+
+/// What is wrong at a place.
+#[derive(Clone, Copy, Debug, PartialEq, Eq)]
+pub enum ScriptWhy {
+    /// The tree at the place is not of the grammar.
+    Form,
+    /// Nothing of the name at the place is in scope.
+    UnknownName,
+    /// The name at the place is declared already on its level.
+    Twice,
+    /// The width at the place is not the one that is wanted.
+    Width,
+    /// The list at the place has a wrong number of operands.
+    Arity,
+    /// The number at the place is over its limit.
+    Bound,
+    /// The text ends at the place, and a form is missing.
+    Missing,
+    /// Memory ran out. This says nothing of the text, nor does the place.
+    Memory,
+}
+
+/// The first fault of a text in reading order.
+#[derive(Clone, Copy, Debug, PartialEq, Eq)]
+pub struct ScriptFault {
+    pub place: Place,
+    pub why: ScriptWhy,
+}
+
+impl From<AllocError> for ScriptFault {
+    ghost from_gives = { λ _ fault. fault ≡ record { place = record { line = 1; column = 1 }; why = Memory } };
+
+    fn from(_e: AllocError) -> ScriptFault {
+        ScriptFault {
+            place: Place { line: 1, column: 1 },
+            why: ScriptWhy::Memory,
+        }
+    }
+}
+
+fn why_of(why: LangWhy) -> ScriptWhy {
+    match why {
+        LangWhy::Form => ScriptWhy::Form,
+        LangWhy::UnknownName => ScriptWhy::UnknownName,
+        LangWhy::Twice => ScriptWhy::Twice,
+        LangWhy::Width => ScriptWhy::Width,
+        LangWhy::Arity => ScriptWhy::Arity,
+        LangWhy::Bound => ScriptWhy::Bound,
+        LangWhy::Missing => ScriptWhy::Missing,
+        LangWhy::Memory => ScriptWhy::Memory,
+    }
+}
+
+impl From<LangFault> for ScriptFault {
+    fn from(fault: LangFault) -> ScriptFault {
+        ScriptFault {
+            place: fault.place,
+            why: why_of(fault.why),
+        }
+    }
+}
+
+pub(crate) fn fault(place: Place, why: ScriptWhy) -> ScriptFault
+    ensures { result ≡ record { place = place; why = why } }
+{
+    ScriptFault { place, why }
+}
