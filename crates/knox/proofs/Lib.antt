@@ -1,0 +1,6 @@
+pub mod Digits
+pub mod ReadSteps
+pub mod FiveTexts
+pub mod Written
+pub mod Verified
+pub mod Explained

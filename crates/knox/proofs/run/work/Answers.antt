@@ -1,0 +1,16 @@
+use Rattle.std.proofs.Common.{◌∙◌, ap, sym, subst, Some}
+use Rattle.knox_edge.specs.Texts.{bytes_of}
+use Rattle.knox.specs.Runs.{IsVerify}
+use Rattle.knox.proofs.Verified.{length-names, Because-named}
+use Rattle.knox.proofs.run.work.Goals as goal
+
+pub verify-requires : goal.verify-requires
+verify-requires g c =
+    length-names c.args.words.now c.text_names.result.now c.text_names.ensures
+    (rw c.in-Some-Verify.field-0-is at c.in-Some-Verify.ensures.texts)
+
+pub returns-in-Some-Verify : goal.returns-in-Some-Verify
+returns-in-Some-Verify g c =
+    Because-named (bytes_of c.args.words.now) (bytes_of c.text_names.result.now) _ _ c.verify.result
+    (subst IsVerify (ap Some (sym c.in-Some-Verify.field-0-is) ∙ c.in-Some-Verify.ensures.value) tt)
+    c.text_names.ensures c.verify.ensures

@@ -1,0 +1,48 @@
+-- What each status of a run says.
+use Rattle.std.specs.Prelude.{◌≡◌, ℕ, List, [], ◌++◌, None, take, slice_index_or, ◌⊎◌}
+use Rattle.knox_edge.specs.declared.shelf.ShelfEnd.TheVariants.{Failed, TooLong}
+use Rattle.knox_edge.specs.Counts.{Rose}
+use Rattle.knox_edge.specs.Texts.{Bytes, Reads}
+use Rattle.knox.specs.declared.status.Status.{Status}
+use Rattle.knox.specs.declared.status.Status.TheVariants as status
+use Rattle.script_core.specs.declared.parts.HintNo.{HintNo}
+use Rattle.script_core.specs.declared.parts.Choices.{Choices}
+use Rattle.knox.specs.declared.verdict.Verdict.{Verdict}
+use Rattle.knox.specs.declared.verdict.Verdict.TheVariants.{Yes, Undecided, TooWide}
+use Rattle.knox.specs.Commands.{command_of}
+use Rattle.knox.specs.Reading.{ReadWhole, ReadUpTo, texts_of}
+use Rattle.knox.specs.Verdicts.{JudgesTexts, printed}
+use Rattle.knox.specs.Lines.{usage_line, not_yet_line, cannot_read_line, letter_at, too_long_line}
+use Rattle.knox.specs.Runs.{IsVerify, IsOther, Sunk, Whole, names_of}
+
+-- the five texts were read and have this verdict, which was written to `out`, and nothing to `err`
+abbrev pub Judged : List Bytes → Reads → Reads → Sunk → Sunk → Sunk → Sunk → Verdict → Type 0
+Judged ws before after out out' err err' verdict =
+    IsVerify (command_of ws)
+    × ((whole : ReadWhole (names_of ws) before after) × JudgesTexts verdict (texts_of whole.entries))
+    × Whole out out' (printed verdict) × Whole err err' []
+
+-- why a status comes, and what was written with it
+abbrev pub Explains : List Bytes → Reads → Reads → Sunk → Sunk → Sunk → Sunk → Status → Type 0
+Explains ws before after out out' err err' status.Yes = Judged ws before after out out' err err' Yes
+Explains ws before after out out' err err' status.Undecided =
+    (hint : HintNo) × (choices : Choices) × Judged ws before after out out' err err' (Undecided hint choices)
+Explains ws before after out out' err err' status.TooWide =
+    (hint : HintNo) × (bits : ℕ) × Judged ws before after out out' err err' (TooWide hint bits)
+Explains ws before after out out' err err' status.Usage =
+    (command_of ws ≡ None) × (after ≡ before) × Whole out out' [] × Whole err err' usage_line
+Explains ws before after out out' err err' status.NotYet =
+    ((IsOther (command_of ws) × (after ≡ before)) ⊎ (IsVerify (command_of ws) × ReadWhole (names_of ws) before after))
+    × Whole out out' [] × Whole err err' not_yet_line
+Explains ws before after out out' err err' status.ReadFault =
+    (which : ℕ) × IsVerify (command_of ws) × ReadUpTo (names_of ws) which Failed before after × Rose before.faults after.faults
+    × Whole out out' [] × Whole err err' (cannot_read_line (slice_index_or (names_of ws) which []))
+Explains ws before after out out' err err' status.Text =
+    (which : ℕ) × IsVerify (command_of ws) × ReadUpTo (names_of ws) which TooLong before after
+    × Whole out out' [] × Whole err err' (too_long_line (letter_at which))
+Explains ws before after out out' err err' status.WriteFault = Rose out.faults out'.faults ⊎ Rose err.faults err'.faults
+Explains ws before after out out' err err' status.Memory = Unit {0}
+
+-- the names that were asked are a prefix of the command's texts
+abbrev pub AsksPrefix : List Bytes → Reads → Reads → Type 0
+AsksPrefix ws before after = (count : ℕ) × (after.names ≡ before.names ++ take count (names_of ws))

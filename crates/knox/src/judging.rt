@@ -1,0 +1,44 @@
+//! Gives five texts that were read to the verifier.
+ghost use Rattle.std.specs.Prelude.{◌≡◌, ◌≤◌, ◌+◌, ◌^◌, length, drop, IfOk};
+ghost use Rattle.knox.specs.Reading.{Within, texts_of};
+ghost use Rattle.knox.specs.Verdicts.{JudgesTexts};
+
+use crate::verdict::{Verdict, VerifyFault};
+use crate::verify::verify_texts;
+use knox_edge::Shelf;
+use std::alloc::Global;
+
+/// Why texts that were read got no verdict.
+#[derive(Clone, Copy, Debug, PartialEq, Eq)]
+pub enum Unjudged {
+    /// A text is in no form that is built yet.
+    NotYet,
+    /// Memory ran out.
+    Memory,
+}
+
+/// The verdict on the five texts that a shelf gave last, of which this is the place of the first.
+pub fn judge<F: Shelf>(
+    alloc: Global,
+    shelf: &F,
+    first: usize,
+    budget: u64,
+    paths: u32,
+) -> Result<Verdict, Unjudged>
+    requires five { length (drop first (F.given shelf.now)) ≡ 5 }
+    requires within { Within (texts_of (drop first (F.given shelf.now))) }
+    requires places { first + 5 ≤ 2 ^ 64 }
+    ensures { IfOk result (λ v. JudgesTexts v (texts_of (drop first (F.given shelf.now)))) }
+{
+    let c = shelf.text(first);
+    let s = shelf.text(first + 1);
+    let d = shelf.text(first + 2);
+    let e = shelf.text(first + 3);
+    let h = shelf.text(first + 4);
+    match verify_texts(alloc, c, s, d, e, h, budget, paths) {
+        Ok(verdict) => Ok(verdict),
+        Err(VerifyFault::NotYet) => Err(Unjudged::NotYet),
+        Err(VerifyFault::Memory) => Err(Unjudged::Memory),
+        Err(VerifyFault::Text(_, _)) => unreachable!(),
+    }
+}

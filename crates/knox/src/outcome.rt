@@ -1,0 +1,23 @@
+//! What a run comes to before it writes.
+ghost use Rattle.std.specs.Prelude.{◌≡◌, ◌∷◌};
+
+use crate::verdict::Verdict;
+
+/// What a run has to say. A number counts the command's texts from 0.
+#[derive(Drop)]
+pub enum Outcome {
+    /// The words are no command.
+    NoCommand,
+    /// A command that isn't built yet.
+    UnbuiltCommand,
+    /// The read of this text failed.
+    Unread(usize),
+    /// This text has more bytes than a text may have.
+    Overlong(usize),
+    /// A text is in no form that is built yet.
+    UnbuiltTexts,
+    /// The texts have this verdict.
+    Judged(Verdict),
+    /// Memory ran out.
+    OutOfMemory,
+}

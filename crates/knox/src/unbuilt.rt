@@ -1,0 +1,71 @@
+//! Faults of texts as faults of the verifier: until the languages stand whole, a text that isn't
+//! read is one of a form that isn't built.
+ghost use Rattle.std.specs.Prelude.{◌≡◌};
+ghost use Rattle.knox.specs.declared.verdict.VerifyFault.TheVariants.{Memory};
+
+use crate::verdict::VerifyFault;
+use knox_circuit::{BtorFault, Why};
+use knox_sexpr::SexprFault;
+use lang_read::{LangFault, LangWhy};
+use script_read::{ScriptFault, ScriptWhy};
+use std::alloc::AllocError;
+
+impl From<AllocError> for VerifyFault {
+    ghost from_gives = { λ _ fault. fault ≡ Memory };
+
+    fn from(_e: AllocError) -> VerifyFault {
+        VerifyFault::Memory
+    }
+}
+
+impl From<BtorFault> for VerifyFault {
+    ghost use Rattle.knox.specs.Faults.{IsNoText};
+
+    ghost from_gives = { λ _ fault. IsNoText fault };
+
+    fn from(fault: BtorFault) -> VerifyFault {
+        match fault.why {
+            Why::Memory => VerifyFault::Memory,
+            _ => VerifyFault::NotYet,
+        }
+    }
+}
+
+impl From<SexprFault> for VerifyFault {
+    ghost use Rattle.knox.specs.Faults.{IsNoText};
+
+    ghost from_gives = { λ _ fault. IsNoText fault };
+
+    fn from(fault: SexprFault) -> VerifyFault {
+        match fault {
+            SexprFault::Memory => VerifyFault::Memory,
+            _ => VerifyFault::NotYet,
+        }
+    }
+}
+
+impl From<LangFault> for VerifyFault {
+    ghost use Rattle.knox.specs.Faults.{IsNoText};
+
+    ghost from_gives = { λ _ fault. IsNoText fault };
+
+    fn from(fault: LangFault) -> VerifyFault {
+        match fault.why {
+            LangWhy::Memory => VerifyFault::Memory,
+            _ => VerifyFault::NotYet,
+        }
+    }
+}
+
+impl From<ScriptFault> for VerifyFault {
+    ghost use Rattle.knox.specs.Faults.{IsNoText};
+
+    ghost from_gives = { λ _ fault. IsNoText fault };
+
+    fn from(fault: ScriptFault) -> VerifyFault {
+        match fault.why {
+            ScriptWhy::Memory => VerifyFault::Memory,
+            _ => VerifyFault::NotYet,
+        }
+    }
+}

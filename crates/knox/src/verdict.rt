@@ -1,0 +1,41 @@
+//! Verdicts on five texts.
+use script_core::{Choices, HintNo};
+
+/// A text of a verify command: its circuit, specification, driver, emulator or hint text.
+#[derive(Clone, Copy, Debug, PartialEq, Eq)]
+pub enum Letter {
+    C,
+    S,
+    D,
+    E,
+    H,
+}
+
+/// What is wrong with a text.
+#[derive(Clone, Copy, Debug, PartialEq, Eq)]
+pub enum TextWhy {
+    /// It has more than 67,108,864 bytes.
+    TooLong,
+}
+
+/// Why five texts got no verdict.
+#[derive(Clone, Copy, Debug, PartialEq, Eq)]
+pub enum VerifyFault {
+    /// This text has a fault.
+    Text(Letter, TextWhy),
+    /// A text is in no form that is built yet.
+    NotYet,
+    /// Memory ran out. This says nothing of the texts.
+    Memory,
+}
+
+/// What is known of five texts.
+#[derive(Drop)]
+pub enum Verdict {
+    /// The two worlds agree on every list of events.
+    Yes,
+    /// These choices falsify the hint, which shows nothing of the two worlds.
+    Undecided(HintNo, Choices),
+    /// The segment of this hint takes this many bits, too many to be tried.
+    TooWide(HintNo, u64),
+}

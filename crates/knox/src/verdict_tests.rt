@@ -1,0 +1,298 @@
+//! Verdicts on small devices, and texts that are outside the form.
+//! The device stores a secret of 4 bits. A command 1 sets it, a command 2 asks whether the data is
+//! the secret, and the answer is shown one tick later.
+use crate::run::run;
+use crate::status::Status;
+use crate::words::Words;
+use knox_edge::{MemShelf, MemSink};
+use std::alloc::{AllocError, Global};
+use std::test::Fail;
+
+/// The PIN store.
+const CIRCUIT: &[u8] = b"\
+1 sort bitvec 1\n\
+2 sort bitvec 2\n\
+3 sort bitvec 4\n\
+4 zero 1\n\
+5 zero 3\n\
+6 constd 2 1\n\
+7 constd 2 2\n\
+8 input 2 cmd\n\
+9 input 3 data\n\
+10 state 3 secret\n\
+11 init 3 10 5\n\
+12 state 1 ok\n\
+13 init 1 12 4\n\
+14 eq 1 8 6\n\
+15 ite 3 14 9 10\n\
+16 next 3 10 15\n\
+17 eq 1 8 7\n\
+18 eq 1 9 10\n\
+19 and 1 17 18\n\
+20 next 1 12 19\n\
+21 output 12 ok\n\
+";
+
+/// Its specification.
+const SPEC: &[u8] = b"\
+(spec (field secret 4 0)\n\
+ (op set ((v 4)) 1 (assign secret v) (result #b1))\n\
+ (op check ((g 4)) 1 (result (eq g secret))))\n\
+";
+
+/// Its driver, for the wires alone.
+const DRIVER: &[u8] = b"(driver (persistent secret))";
+
+/// Its emulator, which asks the specification.
+const EMULATOR: &[u8] = b"\
+(emulator (field ok 1 0)\n\
+ (outputs (ok ok))\n\
+ (tick (local q 1) (local r 1)\n\
+  (if (eq (in cmd) (bv 2 1)) ((query q set (in data))) ())\n\
+  (if (eq (in cmd) (bv 2 2)) ((query r check (in data))) ())\n\
+  (assign ok r)))\n\
+";
+
+/// Hints that close.
+const HINTS: &[u8] = b"\
+(refine (eq (s secret) (c secret)))\n\
+(wire\n\
+ (cut A (and (eq (s secret) (c secret)) (eq (c ok) (e ok))))\n\
+ (step 1)\n\
+ (subsume A))\n\
+";
+
+/// Hints whose cut doesn't say that circuit and emulator show the same.
+const WEAK_HINTS: &[u8] = b"\
+(refine (eq (s secret) (c secret)))\n\
+(wire\n\
+ (cut A (eq (s secret) (c secret)))\n\
+ (step 1)\n\
+ (subsume A))\n\
+";
+
+/// The circuit shows whether its secret is 0.
+const LEAKING: &[u8] = b"\
+1 sort bitvec 1\n\
+2 sort bitvec 2\n\
+3 sort bitvec 4\n\
+4 zero 1\n\
+5 zero 3\n\
+6 constd 2 1\n\
+7 constd 2 2\n\
+8 input 2 cmd\n\
+9 input 3 data\n\
+10 state 3 secret\n\
+11 init 3 10 5\n\
+12 state 1 ok\n\
+13 init 1 12 4\n\
+14 eq 1 8 6\n\
+15 ite 3 14 9 10\n\
+16 next 3 10 15\n\
+17 eq 1 8 7\n\
+18 eq 1 9 10\n\
+19 and 1 17 18\n\
+20 next 1 12 19\n\
+21 redor 1 10\n\
+22 output 21 ok\n\
+";
+
+/// The PIN store with a secret of 5 bits and commands of 4.
+const WIDE_CIRCUIT: &[u8] = b"\
+1 sort bitvec 1\n\
+2 sort bitvec 4\n\
+3 sort bitvec 5\n\
+4 zero 1\n\
+5 zero 3\n\
+6 constd 2 1\n\
+7 constd 2 2\n\
+8 input 2 cmd\n\
+9 input 3 data\n\
+10 state 3 secret\n\
+11 init 3 10 5\n\
+12 state 1 ok\n\
+13 init 1 12 4\n\
+14 eq 1 8 6\n\
+15 ite 3 14 9 10\n\
+16 next 3 10 15\n\
+17 eq 1 8 7\n\
+18 eq 1 9 10\n\
+19 and 1 17 18\n\
+20 next 1 12 19\n\
+21 output 12 ok\n\
+";
+
+/// Its specification.
+const WIDE_SPEC: &[u8] = b"\
+(spec (field secret 5 0)\n\
+ (op set ((v 5)) 1 (assign secret v) (result #b1))\n\
+ (op check ((g 5)) 1 (result (eq g secret))))\n\
+";
+
+/// Its emulator.
+const WIDE_EMULATOR: &[u8] = b"\
+(emulator (field ok 1 0)\n\
+ (outputs (ok ok))\n\
+ (tick (local q 1) (local r 1)\n\
+  (if (eq (in cmd) (bv 4 1)) ((query q set (in data))) ())\n\
+  (if (eq (in cmd) (bv 4 2)) ((query r check (in data))) ())\n\
+  (assign ok r)))\n\
+";
+
+/// Five texts.
+#[derive(Clone, Copy)]
+struct Texts {
+    c: &'static [u8],
+    s: &'static [u8],
+    d: &'static [u8],
+    e: &'static [u8],
+    h: &'static [u8],
+}
+
+/// The PIN store and hints that close.
+const SMALL: Texts = Texts {
+    c: CIRCUIT,
+    s: SPEC,
+    d: DRIVER,
+    e: EMULATOR,
+    h: HINTS,
+};
+
+/// How a run ended, and what it wrote.
+#[derive(Drop)]
+struct Ran {
+    status: Status,
+    out: Vec<u8>,
+    err: Vec<u8>,
+}
+
+fn hold(
+    alloc: Global,
+    held: &mut Vec<(Vec<u8>, Vec<u8>)>,
+    name: &[u8],
+    text: &[u8],
+) -> Result<(), AllocError> {
+    held.push((Vec::from_slice(alloc, name)?, Vec::from_slice(alloc, text)?))?;
+    Ok(())
+}
+
+fn shelf_of(alloc: Global, texts: Texts) -> Result<MemShelf, AllocError> {
+    let mut held = Vec::new(alloc);
+    hold(alloc, &mut held, b"c", texts.c)?;
+    hold(alloc, &mut held, b"s", texts.s)?;
+    hold(alloc, &mut held, b"d", texts.d)?;
+    hold(alloc, &mut held, b"e", texts.e)?;
+    hold(alloc, &mut held, b"h", texts.h)?;
+    Ok(MemShelf::new(alloc, held, Vec::new(alloc)))
+}
+
+/// Verifies five texts, with an `out` that fails at these puts and then keeps 2 bytes.
+fn verify(alloc: Global, texts: Texts, fail: Vec<u64>) -> Result<Ran, AllocError> {
+    let mut items = Vec::new(alloc);
+    for word in "verify c s d e h".split(' ') {
+        items.push(Vec::from_slice(alloc, word.as_bytes())?)?;
+    }
+    let mut shelf = shelf_of(alloc, texts)?;
+    let mut out = MemSink::new(alloc, fail, 2);
+    let mut err = MemSink::new(alloc, Vec::new(alloc), 0);
+    let status = run(alloc, &Words { items }, &mut shelf, &mut out, &mut err);
+    Ok(Ran {
+        status,
+        out: Vec::from_slice(alloc, out.written())?,
+        err: Vec::from_slice(alloc, err.written())?,
+    })
+}
+
+#[test]
+fn verdicts_and_their_lines(rt: HostRuntime) -> Result<(), Fail> {
+    let alloc = rt.alloc();
+    let cases = [
+        (SMALL, Status::Yes, b"yes\n".as_slice()),
+        // In ascending order the first choices at which circuit and emulator show different
+        // outputs have all words 0 but the emulator's ok.
+        (
+            Texts {
+                h: WEAK_HINTS,
+                ..SMALL
+            },
+            Status::Undecided,
+            b"undecided 3\nchoices 0 0 0 1 0 0\n".as_slice(),
+        ),
+        // With a secret of 0 the circuit shows 0, also where ok is 1.
+        (
+            Texts {
+                c: LEAKING,
+                ..SMALL
+            },
+            Status::Undecided,
+            b"undecided 3\nchoices 0 0 1 1 0 0\n".as_slice(),
+        ),
+        // 5 bits of the field, 5 and 1 of the cells, 1 of the emulator, 4 and 5 of the inputs.
+        (
+            Texts {
+                c: WIDE_CIRCUIT,
+                s: WIDE_SPEC,
+                e: WIDE_EMULATOR,
+                ..SMALL
+            },
+            Status::TooWide,
+            b"too-wide 2 21\n".as_slice(),
+        ),
+    ];
+    for (texts, status, out) in cases {
+        let ran = verify(alloc, texts, Vec::new(alloc))?;
+        assert_eq!(rt; ran.status, status);
+        assert!(rt; ran.out.as_slice() == out);
+        assert!(rt; ran.err.is_empty());
+    }
+    Ok(())
+}
+
+#[test]
+fn texts_outside_the_form(rt: HostRuntime) -> Result<(), Fail> {
+    let alloc = rt.alloc();
+    let cases = [
+        // A width over 8, an operator that isn't built, a call of an operation, a copy, a script
+        // without `wire`, and a relation that doesn't hold of the factory state.
+        Texts {
+            c: b"1 sort bitvec 9\n",
+            ..SMALL
+        },
+        Texts {
+            s: b"(spec (field secret 4 0) (op f () 4 (result (inc secret))))",
+            ..SMALL
+        },
+        Texts {
+            d: b"(driver (persistent secret) (call set (result #b1)))",
+            ..SMALL
+        },
+        Texts {
+            e: b"(emulator (copy))",
+            ..SMALL
+        },
+        Texts {
+            h: b"(refine #b1)",
+            ..SMALL
+        },
+        Texts {
+            h: b"(refine #b0) (wire (cut A #b1) (step 1) (subsume A))",
+            ..SMALL
+        },
+    ];
+    for texts in cases {
+        let ran = verify(alloc, texts, Vec::new(alloc))?;
+        assert_eq!(rt; ran.status, Status::NotYet);
+        assert!(rt; ran.err.as_slice() == b"not yet\n".as_slice());
+        assert!(rt; ran.out.is_empty());
+    }
+    Ok(())
+}
+
+#[test]
+fn an_out_that_fails(rt: HostRuntime) -> Result<(), Fail> {
+    let alloc = rt.alloc();
+    let ran = verify(alloc, SMALL, vec![in alloc; 1]?)?;
+    assert_eq!(rt; ran.status, Status::WriteFault);
+    assert!(rt; ran.out.as_slice() == b"ye".as_slice());
+    Ok(())
+}
