@@ -10,6 +10,8 @@ mod run;
 mod saying;
 mod status;
 #[cfg(test)]
+mod store_tests;
+#[cfg(test)]
 mod tests;
 mod unbuilt;
 mod verdict;

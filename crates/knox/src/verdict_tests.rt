@@ -9,7 +9,7 @@ use std::alloc::{AllocError, Global};
 use std::test::Fail;
 
 /// The PIN store.
-const CIRCUIT: &[u8] = b"\
+pub(crate) const CIRCUIT: &[u8] = b"\
 1 sort bitvec 1\n\
 2 sort bitvec 2\n\
 3 sort bitvec 4\n\
@@ -34,17 +34,17 @@ const CIRCUIT: &[u8] = b"\
 ";
 
 /// Its specification.
-const SPEC: &[u8] = b"\
+pub(crate) const SPEC: &[u8] = b"\
 (spec (field secret 4 0)\n\
  (op set ((v 4)) 1 (assign secret v) (result #b1))\n\
  (op check ((g 4)) 1 (result (eq g secret))))\n\
 ";
 
 /// Its driver, for the wires alone.
-const DRIVER: &[u8] = b"(driver (persistent secret))";
+pub(crate) const DRIVER: &[u8] = b"(driver (persistent secret))";
 
 /// Its emulator, which asks the specification.
-const EMULATOR: &[u8] = b"\
+pub(crate) const EMULATOR: &[u8] = b"\
 (emulator (field ok 1 0)\n\
  (outputs (ok ok))\n\
  (tick (local q 1) (local r 1)\n\

@@ -46,7 +46,13 @@ fn parse(alloc: Global, text: &[u8]) -> Result<Parsed, VerifyFault>
 }
 
 /// The device that four texts mean.
-fn device_of(alloc: Global, c: &[u8], s: &[u8], d: &[u8], e: &[u8]) -> Result<Device, VerifyFault>
+pub(crate) fn device_of(
+    alloc: Global,
+    c: &[u8],
+    s: &[u8],
+    d: &[u8],
+    e: &[u8],
+) -> Result<Device, VerifyFault>
     requires c { length c.now ≤ 67108864 }
     requires s { length s.now ≤ 67108864 }
     requires d { length d.now ≤ 67108864 }
