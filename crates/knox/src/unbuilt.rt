@@ -19,9 +19,9 @@ impl From<AllocError> for VerifyFault {
 }
 
 impl From<BtorFault> for VerifyFault {
-    ghost use Rattle.knox.specs.Faults.{IsNoText};
+    ghost use Rattle.knox.specs.Faults.{of_circuit};
 
-    ghost from_gives = { λ _ fault. IsNoText fault };
+    ghost from_gives = { λ f fault. fault ≡ of_circuit f.why };
 
     fn from(fault: BtorFault) -> VerifyFault {
         match fault.why {
@@ -32,9 +32,9 @@ impl From<BtorFault> for VerifyFault {
 }
 
 impl From<SexprFault> for VerifyFault {
-    ghost use Rattle.knox.specs.Faults.{IsNoText};
+    ghost use Rattle.knox.specs.Faults.{of_trees};
 
-    ghost from_gives = { λ _ fault. IsNoText fault };
+    ghost from_gives = { λ f fault. fault ≡ of_trees f };
 
     fn from(fault: SexprFault) -> VerifyFault {
         match fault {
@@ -45,9 +45,9 @@ impl From<SexprFault> for VerifyFault {
 }
 
 impl From<LangFault> for VerifyFault {
-    ghost use Rattle.knox.specs.Faults.{IsNoText};
+    ghost use Rattle.knox.specs.Faults.{of_program};
 
-    ghost from_gives = { λ _ fault. IsNoText fault };
+    ghost from_gives = { λ f fault. fault ≡ of_program f.why };
 
     fn from(fault: LangFault) -> VerifyFault {
         match fault.why {
@@ -58,9 +58,9 @@ impl From<LangFault> for VerifyFault {
 }
 
 impl From<ScriptFault> for VerifyFault {
-    ghost use Rattle.knox.specs.Faults.{IsNoText};
+    ghost use Rattle.knox.specs.Faults.{of_script};
 
-    ghost from_gives = { λ _ fault. IsNoText fault };
+    ghost from_gives = { λ f fault. fault ≡ of_script f.why };
 
     fn from(fault: ScriptFault) -> VerifyFault {
         match fault.why {
