@@ -35,7 +35,7 @@ length-outputs (l ∷ before) =
 flat-cell : (c : Cell) → c.index ≡ None → words_in (c ∷ []) ≡ 1
 flat-cell c e = rw e refl
 
-flat-words : (cells : List Cell) → list_all (λ (c : Cell). is_none c.index) cells ≡ true → words_in cells ≡ length cells
+pub flat-words : (cells : List Cell) → list_all (λ (c : Cell). is_none c.index) cells ≡ true → words_in cells ≡ length cells
 flat-words [] w = refl
 flat-words (c ∷ cs) w =
     let one : words_in (c ∷ []) ≡ 1 = flat-cell c (is_none-none c.index (and-left _ _ w)) in
@@ -47,7 +47,7 @@ flat-widths : (cells : List Cell) → list_all (λ (c : Cell). is_none c.index) 
 flat-widths [] w = refl
 flat-widths (c ∷ cs) w = rw (is_none-none c.index (and-left _ _ w)) (ap (λ (z : List ℕ). c.width ∷ z) (flat-widths cs (and-right _ _ w)))
 
-cells-flat : (lines : List Line) (t : Tables) → IsTabled (reverse lines) t → list_all (λ (c : Cell). is_none c.index) (cells_of lines) ≡ true
+pub cells-flat : (lines : List Line) (t : Tables) → IsTabled (reverse lines) t → list_all (λ (c : Cell). is_none c.index) (cells_of lines) ≡ true
 cells-flat lines t h = ap (list_all (λ (c : Cell). is_none c.index)) (sym h.cells) ∙ h.words
 
 pub nodes-length : (lines : List Line) (t : Tables) → IsTabled (reverse lines) t → length t.nodes ≡ length lines

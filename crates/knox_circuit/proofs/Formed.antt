@@ -17,7 +17,7 @@ use Rattle.knox_circuit.specs.declared.line.Line.{Line}
 use Rattle.knox_circuit.specs.declared.line.Shape.{Shape}
 use Rattle.knox_circuit.specs.declared.line.Shape.TheVariants as shape
 use Rattle.knox_circuit.specs.declared.circuit.Cell.{Cell}
-use Rattle.knox_circuit.specs.Sorts.{earlier, decimal, shape_of, sort_width, sort_index, indices_width, input_sort, state_sort, output_operand}
+use Rattle.knox_circuit.specs.Sorts.{earlier, decimal, shape_of, words_width, sort_width, sort_index, indices_width, input_sort, state_sort, output_operand}
 use Rattle.knox_circuit.specs.Ports.{name_of, number_of, node_width, input_port, inputs_of, output_port, outputs_of, output_operands, one_or_none}
 use Rattle.knox_circuit.specs.States.{next_of, size, words_in, if_some, state_cell, cell_among, cells_among}
 use Rattle.knox_circuit.specs.Form.{all_digits, are_digits, constant_fits, last_number, is_shape, is_line, is_width, plain_width, IsInForm}
@@ -103,7 +103,7 @@ args-more lines all k l is =
 
 pub ruleset table_steps = (earlier-all, inputs-more, outputs-more, args-more)
 
-is_array : Option Shape → Bool
+pub is_array : Option Shape → Bool
 is_array (Some (shape.Array i e)) = true
 is_array _ = false
 
@@ -113,12 +113,20 @@ indices-none before None h = refl
 indices-none before (Some (shape.Array i e)) h = cc
 indices-none before (Some _) h = refl
 
-not-array : (before : List Line) (s : Shape) → IsTrue (is_shape before s) → is_array (Some s) ≡ false
+-- one more line changes no sort of words
+pub words-same : (before : List Line) (l : Line) (o : Option Shape) → is_array o ≡ false → words_width (l ∷ before) o ≡ words_width before o
+unfolding is_array
+words-same before l None h = refl
+words-same before l (Some (shape.Bitvec w)) h = refl
+words-same before l (Some (shape.Array i e)) h = cc
+words-same before l (Some _) h = refl
+
+pub not-array : (before : List Line) (s : Shape) → IsTrue (is_shape before s) → is_array (Some s) ≡ false
 unfolding is_array
 not-array before (shape.Array i e) f = cc
 not-array before _ f = refl
 
-shape-in_form : (past : List Line) → IsInForm past → (n : ℕ) → is_array (shape_of past n) ≡ false
+pub shape-in_form : (past : List Line) → IsInForm past → (n : ℕ) → is_array (shape_of past n) ≡ false
 unfolding is_array
 shape-in_form [] f n = refl
 shape-in_form (l ∷ before) f n = elim (eqb_tells l.number n) [
@@ -198,7 +206,7 @@ cells-few all before l first o cells new k h e =
     let one = one-more_cell all before l first o in
     omega arith
 
-digits-plain : (w : ℕ) (ds : List ℕ) → IsTrue (are_digits w ds) → decimal w ds ≡ word_or w (digits_value 10 ds)
+pub digits-plain : (w : ℕ) (ds : List ℕ) → IsTrue (are_digits w ds) → decimal w ds ≡ word_or w (digits_value 10 ds)
 digits-plain w [] f = cc
 digits-plain w (d ∷ ds) f = elim (eqb_tells d 45) [
   | inl p ↦

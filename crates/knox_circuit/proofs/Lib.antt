@@ -6,3 +6,8 @@ pub mod Lists
 pub mod Complete
 pub mod Evaluated
 pub mod Powered
+pub mod Sized
+pub mod Fitting
+pub mod Celled
+pub mod Sound
+pub mod Persisting

@@ -64,7 +64,7 @@ ready-noise : (all : List Line) (kept : Bool) (number width : ℕ) (index : Opti
 ready-noise all kept number width index cell None w e = cc
 ready-noise all kept number width index cell (Some v) w e = refl
 
-ready-cell : (all : List Line) (cell : Bool) (init : Option ℤ) (w : Bits) → init_word all cell init ≡ Some w → (cell ≡ true) × (literal_operand all init ≡ Some w)
+pub ready-cell : (all : List Line) (cell : Bool) (init : Option ℤ) (w : Bits) → init_word all cell init ≡ Some w → (cell ≡ true) × (literal_operand all init ≡ Some w)
 ready-cell all true init w e = (refl, e)
 ready-cell all false init w e = cc
 

@@ -3,8 +3,9 @@
 -- built before it, or its noise words where it has no `init`.
 -- The project's own.
 use Rattle.std.specs.Prelude.{ℕ, ◌==◌, ◌&&◌, ℤ, List, [], ◌∷◌, ◌++◌, take, drop, reverse, length, replicate, Bool, false, Option, Some, None, if◌then◌else◌}
-use Rattle.knox_words.specs.Bits.{Bits, word_at}
+use Rattle.knox_words.specs.Bits.{Bits, word_at, word_or}
 use Rattle.knox_circuit.specs.declared.line.Line.{Line}
+use Rattle.knox_circuit.specs.declared.circuit.Cell.{Cell}
 use Rattle.knox_circuit.specs.Meaning.{Value, given, zero_word, constant, operand, value_of}
 use Rattle.knox_circuit.specs.States.{StateLine, size, states_among}
 use Rattle.knox_words.specs.Lists.{fit}
@@ -75,3 +76,22 @@ fits_noise lines keep noise =
 abbrev pub kept_words : List Bool → List Bits → List Bits → List Bits
 kept_words keep old [] = []
 kept_words keep old (w ∷ ws) = (if first_keep keep then take 1 old else w ∷ []) ++ kept_words (drop 1 keep) (drop 1 old) ws
+
+-- the words of the cells that are kept, in line order; `keep` has one truth value per cell
+abbrev pub persistent_words : List Cell → List Bool → List Bits → List Bits
+persistent_words [] keep words = []
+persistent_words (c ∷ cs) keep words =
+    (if first_keep keep then take (size c.index) words else []) ++ persistent_words cs (drop 1 keep) (drop (size c.index) words)
+
+-- the widths of these words
+abbrev pub persistent_widths : List Cell → List Bool → List ℕ
+persistent_widths [] keep = []
+persistent_widths (c ∷ cs) keep =
+    (if first_keep keep then replicate (size c.index) c.width else []) ++ persistent_widths cs (drop 1 keep)
+
+-- device words with these words in the cells that are kept, and zero words elsewhere
+abbrev pub spread_words : List Cell → List Bool → List Bits → List Bits
+spread_words [] keep words = []
+spread_words (c ∷ cs) keep words =
+    (if first_keep keep then take (size c.index) words else replicate (size c.index) (word_or c.width 0))
+    ++ spread_words cs (drop 1 keep) (if first_keep keep then drop (size c.index) words else words)

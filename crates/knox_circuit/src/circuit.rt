@@ -6,7 +6,7 @@ ghost use Rattle.knox_circuit.specs.Form.{IsInForm};
 ghost use Rattle.knox_circuit.specs.Ports.{inputs_of, outputs_of};
 ghost use Rattle.knox_circuit.specs.Power.{factory_state, state_after_power, fits_noise, noise_widths, states_of};
 ghost use Rattle.knox_circuit.specs.States.{bares_among, words_in};
-ghost use Rattle.knox_circuit.specs.Whole.{is_complete};
+ghost use Rattle.knox_circuit.specs.Whole.{is_complete, IsTabled};
 
 use crate::fault::{BtorFault, Why};
 use crate::line::Line;
@@ -163,6 +163,13 @@ impl Circuit {
         ensures { result.now ≡ bares_among (reverse self.now.lines) (reverse self.now.lines) }
     {
         self.tables.bares.as_slice()
+    }
+
+    /// What was resolved of the lines once.
+    pub(crate) fn tables(&self) -> &Tables
+        ensures { IsTabled (reverse self.now.lines) result.now }
+    {
+        &self.tables
     }
 
     /// Room for one evaluation of this circuit.

@@ -9,6 +9,7 @@ mod eval;
 mod fault;
 mod first;
 mod form;
+mod laws;
 mod line;
 mod look;
 mod node;
@@ -18,4 +19,8 @@ mod table;
 pub use circuit::{Cell, Circuit, Inputs, Noise, Port, Scratch, State};
 pub use draft::Draft;
 pub use fault::{BtorFault, Why};
+pub use laws::{
+    circuits_have_widths, circuits_keep_widths, persistent_words_are_spread,
+    power_keeps_persistent_words,
+};
 pub use line::{Line, Shape};

@@ -1,0 +1,48 @@
+//! Laws of circuits, as functions that change nothing.
+ghost use Rattle.std.specs.Prelude.{◌≡◌, List, Bool, true, [], length};
+ghost use Rattle.knox_words.specs.Bits.{Bits};
+ghost use Rattle.knox_words.specs.Lists.{fit, are_widths};
+ghost use Rattle.knox_circuit.specs.Circuit.{cells_of, state_after_tick, state_widths, input_widths};
+ghost use Rattle.knox_circuit.specs.Power.{factory_state, state_after_power, noise_widths, states_of, persistent_words, persistent_widths, spread_words};
+ghost use Rattle.knox_circuit.specs.States.{words_in};
+
+use crate::circuit::Circuit;
+
+/// Device words keep their widths: the factory's fit, and so do those after a tick and after a
+/// power-cycle of words that fit.
+pub fn circuits_keep_widths(c: &Circuit)
+    ensures tick { (state inputs : List Bits) → fit (state_widths (cells_of c.now.lines)) state ≡ true → fit (input_widths c.now.lines) inputs ≡ true → fit (state_widths (cells_of c.now.lines)) (state_after_tick c.now.lines state inputs) ≡ true }
+    ensures factory { (noise : List Bits) → fit (noise_widths (states_of c.now.lines) []) noise ≡ true → fit (state_widths (cells_of c.now.lines)) (factory_state c.now.lines noise) ≡ true }
+    ensures power { (keep : List Bool) (state noise : List Bits) → length keep ≡ length (cells_of c.now.lines) → fit (state_widths (cells_of c.now.lines)) state ≡ true → fit (noise_widths (states_of c.now.lines) keep) noise ≡ true → fit (state_widths (cells_of c.now.lines)) (state_after_power c.now.lines keep state noise) ≡ true }
+{
+    let _tables = c.tables();
+}
+
+/// The widths of a circuit's words are widths, there are as many device words as the cells have,
+/// and no power-cycle takes noise.
+pub fn circuits_have_widths(c: &Circuit)
+    ensures state { are_widths (state_widths (cells_of c.now.lines)) ≡ true }
+    ensures inputs { are_widths (input_widths c.now.lines) ≡ true }
+    ensures count { (state : List Bits) → fit (state_widths (cells_of c.now.lines)) state ≡ true → length state ≡ words_in (cells_of c.now.lines) }
+    ensures noise { (keep : List Bool) → noise_widths (states_of c.now.lines) keep ≡ [] }
+{
+    let _tables = c.tables();
+}
+
+/// A power-cycle keeps the persistent words, and looks at no other word of the state before it.
+pub fn power_keeps_persistent_words(c: &Circuit)
+    ensures kept { (keep : List Bool) (state noise : List Bits) → length keep ≡ length (cells_of c.now.lines) → fit (state_widths (cells_of c.now.lines)) state ≡ true → fit (noise_widths (states_of c.now.lines) keep) noise ≡ true → persistent_words (cells_of c.now.lines) keep (state_after_power c.now.lines keep state noise) ≡ persistent_words (cells_of c.now.lines) keep state }
+    ensures alone { (keep : List Bool) (state noise : List Bits) → length keep ≡ length (cells_of c.now.lines) → fit (state_widths (cells_of c.now.lines)) state ≡ true → fit (noise_widths (states_of c.now.lines) keep) noise ≡ true → state_after_power c.now.lines keep (spread_words (cells_of c.now.lines) keep (persistent_words (cells_of c.now.lines) keep state)) noise ≡ state_after_power c.now.lines keep state noise }
+{
+    let _tables = c.tables();
+}
+
+/// Persistent words of words that fit have the persistent widths, and words of these widths are
+/// the persistent words of device words that fit.
+pub fn persistent_words_are_spread(c: &Circuit)
+    ensures fitting { (keep : List Bool) (state : List Bits) → fit (state_widths (cells_of c.now.lines)) state ≡ true → fit (persistent_widths (cells_of c.now.lines) keep) (persistent_words (cells_of c.now.lines) keep state) ≡ true }
+    ensures spread { (keep : List Bool) (words : List Bits) → fit (persistent_widths (cells_of c.now.lines) keep) words ≡ true → fit (state_widths (cells_of c.now.lines)) (spread_words (cells_of c.now.lines) keep words) ≡ true }
+    ensures back { (keep : List Bool) (words : List Bits) → fit (persistent_widths (cells_of c.now.lines) keep) words ≡ true → persistent_words (cells_of c.now.lines) keep (spread_words (cells_of c.now.lines) keep words) ≡ words }
+{
+    let _tables = c.tables();
+}
