@@ -3,3 +3,5 @@ pub mod Places
 pub mod Inside
 pub mod Numbers
 pub mod Examples
+pub mod Lines
+pub mod Pieces
