@@ -1,0 +1,6 @@
+//! Checks derivations.
+#![tactic(auto)]
+mod lemma;
+mod places;
+mod register;
+mod step;
