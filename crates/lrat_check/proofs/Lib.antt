@@ -1,1 +1,4 @@
 pub mod PlaceLemmas
+pub mod LiteralLemmas
+pub mod HintSteps
+pub mod Sound

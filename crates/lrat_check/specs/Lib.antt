@@ -1,1 +1,6 @@
 pub mod Register
+pub mod Marks
+pub mod Reading
+pub mod Hints
+pub mod Derivations
+pub mod Soundness

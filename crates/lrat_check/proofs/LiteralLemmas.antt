@@ -1,0 +1,83 @@
+-- Literals, and their numbers in the table and the set of marks.
+use Rattle.std.proofs.Common.{◌≡◌, ℕ, ◌<◌, ◌≤◌, ◌==◌, Bool, true, false, cond, ◌||◌, List, [], ◌∷◌, ◌++◌, length, refl, sym, ◌∙◌, ap, arith, get_or-set_other, get_or-set_same, inl, inr}
+use Rattle.std.specs.Ordering.{nat_cmp}
+use Rattle.std.specs.BTreeSet.{BTreeSet, contains, Updates}
+use Rattle.std.proofs.lemmas.Bool.{eqb-true, eq-eqb, and_parts, and_from, false_from_ne_true, cases_eq}
+use Rattle.std.specs.BTreeMap.{is_at}
+use Rattle.std.specs.Cmp.{Equal-is}
+use Rattle.std.proofs.lemmas.Map.Lookups.{exact_unsigned}
+use Rattle.std.proofs.lemmas.List.Folds.{list_any-append}
+use Rattle.std.proofs.Math.ListN.{set, length-set, get_or}
+use Rattle.knox_cnf.specs.Literals.{Literal, literal, same_sign, same_literal, has}
+use Rattle.lrat_check.specs.Marks.{index_of, Tell}
+
+same_sign-true : (a b : Bool) → same_sign a b ≡ true → a ≡ b
+same_sign-true true true e = refl
+same_sign-true true false e = cc
+same_sign-true false true e = cc
+same_sign-true false false e = refl
+
+same_sign-refl : (a : Bool) → same_sign a a ≡ true
+same_sign-refl true = refl
+same_sign-refl false = refl
+
+pub same_literal-true : (a b : Literal) → same_literal a b ≡ true → a ≡ b
+same_literal-true a b e =
+    let p = and_parts (a.var == b.var) (same_sign a.positive b.positive) e in
+    ap (λ n. literal n a.positive) (eqb-true a.var b.var p.0) ∙ ap (λ s. literal b.var s) (same_sign-true a.positive b.positive p.1)
+
+pub same_literal-refl : (a : Literal) → same_literal a a ≡ true
+same_literal-refl a = and_from (a.var == a.var) (same_sign a.positive a.positive) (eq-eqb a.var a.var refl) (same_sign-refl a.positive)
+
+index_of-same : (m n : ℕ) (p q : Bool) → index_of (literal m p) ≡ index_of (literal n q) → literal m p ≡ literal n q
+index_of-same m n true true e = let k : m ≡ n = omega arith in ap (λ x. literal x true) k
+index_of-same m n true false e = absurd (omega arith)
+index_of-same m n false true e = absurd (omega arith)
+index_of-same m n false false e = let k : m ≡ n = omega arith in ap (λ x. literal x false) k
+
+pub index_of-injective : (a b : Literal) → index_of a ≡ index_of b → a ≡ b
+index_of-injective a b e = index_of-same a.var b.var a.positive b.positive e
+
+or_false : (b : Bool) → (b || false) ≡ b
+or_false true = refl
+or_false false = refl
+
+or_true : (b : Bool) → (b || true) ≡ true
+or_true true = refl
+or_true false = refl
+
+pub has-push : (t : List Literal) (x l : Literal) → has (t ++ x ∷ []) l ≡ (has t l || same_literal l x)
+has-push t x l = list_any-append (same_literal l) t (x ∷ []) ∙ ap (λ b. has t l || b) (or_false (same_literal l x))
+
+pub has-push_same : (t : List Literal) (x : Literal) → has (t ++ x ∷ []) x ≡ true
+has-push_same t x = has-push t x x ∙ ap (λ b. has t x || b) (same_literal-refl x) ∙ or_true (has t x)
+
+pub has-push_other : (t : List Literal) (x l : Literal) → (index_of l ≡ index_of x → ⊥) → has (t ++ x ∷ []) l ≡ has t l
+has-push_other t x l ne =
+    has-push t x l ∙ ap (λ b. has t l || b) (false_from_ne_true (same_literal l x) (λ e. ne (ap index_of (same_literal-true l x e)))) ∙ or_false (has t l)
+
+apart : (n i j : ℕ) → i < n → n ≤ j → j ≡ i → ⊥
+apart n i j lt le e = omega arith
+
+-- one more literal, in the table
+pub Tell-near : (near : List Bool) (far : BTreeSet ℕ) (t : List Literal) (x : Literal) → Tell near far t → index_of x < length near → Tell (set near (index_of x) true) far (t ++ x ∷ [])
+Tell-near near far t x tell inside = record {
+  near = λ l below. elim (cases_eq (index_of l) (index_of x)) [
+      | inl e ↦ (rw (index_of-injective l x e) (let lt : index_of x < length near = inside in rw get_or-set_same (sym (has-push_same t x))))
+      | inr ne ↦ (rw (has-push_other t x l ne) (rw (get_or-set_other near (index_of x) (index_of l) true false ne) (tell.near l (rw length-set at below))))
+    ];
+  past = λ l above. tell.past l (rw length-set at above) ∙ sym (has-push_other t x l (λ e. apart (length near) (index_of x) (index_of l) inside (rw length-set at above) e))
+}
+
+not-at : (x y : ℕ) → (x ≡ y → ⊥) → is_at (nat_cmp x) y ≡ false
+not-at x y ne = false_from_ne_true (is_at (nat_cmp x) y) (λ e. ne (exact_unsigned x y ((Equal-is (nat_cmp x y)).0 e)))
+
+-- .. or in the set
+pub Tell-far : (near : List Bool) (far more : BTreeSet ℕ) (t : List Literal) (x : Literal) → Tell near far t → length near ≤ index_of x → Updates nat_cmp far more (index_of x) true → Tell near more (t ++ x ∷ [])
+Tell-far near far more t x tell outside up = record {
+  near = λ l below. tell.near l below ∙ sym (has-push_other t x l (λ e. apart (length near) (index_of l) (index_of x) below outside (sym e)));
+  past = λ l above. elim (cases_eq (index_of l) (index_of x)) [
+      | inl e ↦ (rw (index_of-injective l x e) (up.1 ∙ sym (has-push_same t x)))
+      | inr ne ↦ (up.2 (index_of l) (not-at (index_of x) (index_of l) (λ e. ne (sym e))) ∙ tell.past l above ∙ sym (has-push_other t x l ne))
+    ]
+}

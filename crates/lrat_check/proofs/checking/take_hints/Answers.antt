@@ -1,0 +1,16 @@
+use Rattle.std.proofs.Common.{◌≡◌, ◌∙◌, ap, rules, get_or, sym, Ok, Err, subst, arith}
+use Rattle.std.specs.Prelude.{pos, unsigned_abs}
+use Rattle.lrat_check.specs.Hints.{Answers}
+use Rattle.lrat_check.specs.Derivations.{clauses_with, live_in}
+use Rattle.lrat_check.proofs.HintSteps.{hint-more, hint-Err}
+use Rattle.lrat_check.proofs.checking.take_hints.Goals as goal
+
+pub loop-hint-preserved : goal.loop-hint-preserved
+loop-hint-preserved c =
+    let e : c.unsigned_abs-id.result ≡ unsigned_abs (get_or c.args.hints.now c.loop-hint.hint-index (pos 0)) = search rules in
+    c.loop-hint.invariant ∙ hint-more (live_in c.args.register.now (clauses_with c.args.formula.now c.args.lemmas.now)) c.loop-hint.marks c.take_hint.new.marks c.args.hints.now c.loop-hint.hint-index c.unsigned_abs-id.result (omega arith) e c.take_hint.result c.take_hint.ensures (c.in-Ok-false.is ∙ ap (λ b. Ok b) c.in-Ok-false.field-0-test)
+
+pub returns-in-Err : goal.returns-in-Err
+returns-in-Err c =
+    let e : c.unsigned_abs-id.result ≡ unsigned_abs (get_or c.args.hints.now c.loop-hint.hint-index (pos 0)) = search rules in
+    subst (λ w. Answers (Err c.in-Err.step) w) (sym c.loop-hint.invariant) (hint-Err (live_in c.args.register.now (clauses_with c.args.formula.now c.args.lemmas.now)) c.loop-hint.marks c.take_hint.new.marks c.args.hints.now c.loop-hint.hint-index c.unsigned_abs-id.result c.in-Err.step (omega arith) e c.take_hint.result c.take_hint.ensures c.in-Err.is)

@@ -1,0 +1,10 @@
+use Rattle.std.proofs.Common.{◌≡◌, drop}
+use Rattle.lrat_check.specs.Hints.{take_hints}
+use Rattle.lrat_check.specs.Derivations.{clauses_with, live_in}
+use Rattle.lrat_check.proofs.checking.take_hints.Given as goal
+
+-- what is left of the hints gives what all give
+abbrev pub invariant-loop-hint : goal.invariant-loop-hint
+invariant-loop-hint l =
+    let clause = live_in l.register (clauses_with l.formula l.lemmas) in
+    take_hints clause l.initial.marks l.hints ≡ take_hints clause l.marks (drop l.hint-index l.hints)

@@ -1,0 +1,137 @@
+//! The check of a lemma against the live clauses.
+ghost use Rattle.std.specs.Prelude.{◌≡◌, ◌++◌, ◌∷◌, [], true, map, slice_get, OnOk, IfErr};
+ghost use Rattle.std.specs.Option.{option_copied};
+ghost use Rattle.std.specs.List.{list_any};
+ghost use Rattle.knox_cnf.specs.Literals.{has, complement};
+ghost use Rattle.lrat_check.specs.declared.step.Step.TheVariants.{Memory};
+ghost use Rattle.lrat_check.specs.Hints.{Answers, Takes, after_clause, take_hints as hints_taken, check as checked, is_negative};
+ghost use Rattle.lrat_check.specs.Derivations.{clauses_with, live_in};
+
+use crate::lemma::Lemma;
+use crate::marks::Marks;
+use crate::reading::{Reading, read};
+use crate::register::Register;
+use crate::step::Step;
+use knox_cnf::{Clause, Lit};
+
+/// The clause at a place: those of the formula come first.
+fn clause_at<'a>(formula: &'a [Clause], lemmas: &'a [Lemma], place: usize) -> Option<&'a Clause>
+    ensures { option_copied result ≡ slice_get (clauses_with formula.now lemmas.now) place }
+{
+    if place < formula.len() {
+        return formula.get(place);
+    }
+    match lemmas.get(place - formula.len()) {
+        None => None,
+        Some(lemma) => Some(&lemma.lits),
+    }
+}
+
+/// The live clause that an id names.
+fn live_clause<'a>(
+    formula: &'a [Clause],
+    lemmas: &'a [Lemma],
+    register: &Register,
+    id: u64,
+) -> Option<&'a Clause>
+    ensures { option_copied result ≡ live_in register.now (clauses_with formula.now lemmas.now) id }
+{
+    match register.live_place(id) {
+        None => None,
+        Some(place) => clause_at(formula, lemmas, place),
+    }
+}
+
+/// Takes one hint: true where the check has ended.
+fn take_hint(
+    formula: &[Clause],
+    lemmas: &[Lemma],
+    register: &Register,
+    marks: &mut Marks,
+    id: u64,
+) -> Result<bool, Step>
+    ensures { Takes (after_clause marks.old id (live_in register.now (clauses_with formula.now lemmas.now) id)) result marks.new }
+{
+    let Some(clause) = live_clause(formula, lemmas, register, id) else {
+        return Err(Step::NoSuchClause(id));
+    };
+    match read(marks, clause.lits()) {
+        Reading::False => Ok(true),
+        Reading::Other => Err(Step::NotUnit(id)),
+        Reading::Unit(lit) => {
+            if !marks.holds(lit) && marks.assume(lit).is_err() {
+                return Err(Step::Memory);
+            }
+            Ok(false)
+        }
+    }
+}
+
+fn take_hints(
+    formula: &[Clause],
+    lemmas: &[Lemma],
+    register: &Register,
+    marks: &mut Marks,
+    hints: &[i64],
+) -> Result<(), Step>
+    ensures { Answers result (hints_taken (live_in register.now (clauses_with formula.now lemmas.now)) marks.old hints.now) }
+{
+    for hint in hints {
+        let id = hint.unsigned_abs();
+        match take_hint(formula, lemmas, register, marks, id) {
+            Err(step) => return Err(step),
+            Ok(true) => return Ok(()),
+            Ok(false) => {}
+        }
+    }
+    Err(Step::NoConflict)
+}
+
+/// Takes the literals to be false.
+fn deny(marks: &mut Marks, lits: &[Lit]) -> Result<(), Step>
+    ensures ok { OnOk result (marks.new ≡ marks.old ++ map complement lits.now) }
+    ensures err { IfErr result (λ step. step ≡ Memory) }
+{
+    for lit in lits {
+        if marks.assume(lit.complement()).is_err() {
+            return Err(Step::Memory);
+        }
+    }
+    Ok(())
+}
+
+/// Whether a literal of the lemma is true.
+fn is_contradictory(marks: &Marks, lits: &[Lit]) -> bool
+    ensures { result ≡ list_any (has marks.now) lits.now }
+{
+    lits.iter().any(|lit| marks.holds(*lit))
+}
+
+/// Checks a lemma, and leaves assumptions behind.
+pub fn check(
+    formula: &[Clause],
+    lemmas: &[Lemma],
+    register: &Register,
+    marks: &mut Marks,
+    lits: &[Lit],
+    hints: &[i64],
+) -> Result<(), Step>
+    requires { marks.old ≡ [] }
+    ensures { Answers result (checked (live_in register.now (clauses_with formula.now lemmas.now)) lits.now hints.now) }
+{
+    match deny(marks, lits) {
+        Ok(()) => {}
+        Err(step) => return Err(step),
+    }
+    if is_contradictory(marks, lits) {
+        return Ok(());
+    }
+    take_hints(formula, lemmas, register, marks, hints)
+}
+
+/// Whether a hint is negative.
+pub fn has_negative(hints: &[i64]) -> bool
+    ensures { result ≡ list_any is_negative hints.now }
+{
+    hints.iter().any(|hint| *hint < 0)
+}

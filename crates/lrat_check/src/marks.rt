@@ -1,0 +1,102 @@
+//! Which literals are taken to be true.
+ghost use Rattle.std.specs.Prelude.{◌≡◌, ◌<◌, ◌^◌, ◌++◌, ◌∷◌, [], OnOk, OnErr, IfOk};
+ghost use Rattle.knox_cnf.specs.Literals.{has};
+ghost use Rattle.lrat_check.specs.Marks.{index_of};
+
+use knox_cnf::Lit;
+use std::alloc::{AllocError, Global};
+use std::collections::BTreeSet;
+use std::marker::Model;
+
+/// The literals that are taken to be true, in order. A table tells of the literals of the first
+/// variables, and a set of the others, so that a literal costs no more than itself.
+#[derive(Debug, Drop)]
+pub struct Marks {
+    trail: Vec<Lit>,
+    near: Vec<bool>,
+    far: BTreeSet<u64>,
+}
+
+impl Model for Marks {
+    ghost use Rattle.std.specs.Prelude.{List};
+    ghost use Rattle.knox_cnf.specs.Literals.{Literal};
+    ghost use Rattle.lrat_check.specs.Marks.{Tell};
+
+    ghost Value = { List Literal };
+
+    ghost view = { λ m. m.trail.items };
+
+    ghost invariant = { λ m. Tell m.near.items m.far m.trail.items };
+}
+
+fn index(lit: Lit) -> u64
+    ensures value { result ≡ index_of lit }
+{
+    let double = lit.var() * 2;
+    if lit.is_positive() {
+        double
+    } else {
+        double + 1
+    }
+}
+
+impl Marks {
+    /// No literal is true, and the table has so many places.
+    pub fn new(alloc: Global, places: usize) -> Result<Marks, AllocError>
+        ensures { IfOk result (λ m. m ≡ []) }
+    {
+        let mut near = Vec::new(alloc);
+        for _ in 0..places {
+            near.push(false)?;
+        }
+        Ok(Marks {
+            trail: Vec::new(alloc),
+            near,
+            far: BTreeSet::new(alloc),
+        })
+    }
+
+    /// Whether the literal is one of these.
+    pub fn holds(&self, lit: Lit) -> bool
+        ensures { result ≡ has self.now lit }
+    {
+        let at = index(lit);
+        match self.near.as_slice().get(at as usize) {
+            Some(mark) => *mark,
+            None => self.far.contains(&at),
+        }
+    }
+
+    /// Takes a literal to be true.
+    pub fn assume(&mut self, lit: Lit) -> Result<(), AllocError>
+        ensures ok { OnOk result (self.new ≡ self.old ++ lit ∷ []) }
+        ensures err { OnErr result (self.new ≡ self.old) }
+    {
+        let at = index(lit);
+        self.trail.push(lit)?;
+        if (at as usize) < self.near.len() {
+            self.near[at as usize] = true;
+            return Ok(());
+        }
+        match self.far.insert(at) {
+            Ok(_) => Ok(()),
+            Err(_) => {
+                self.trail.pop();
+                Err(AllocError)
+            }
+        }
+    }
+
+    /// Takes back every assumption, at the cost of their number.
+    pub fn clear(&mut self)
+        ensures { self.new ≡ [] }
+    {
+        while let Some(lit) = self.trail.pop() {
+            let at = index(lit) as usize;
+            if at < self.near.len() {
+                self.near[at] = false;
+            }
+        }
+        self.far.clear();
+    }
+}
