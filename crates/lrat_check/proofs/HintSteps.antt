@@ -1,5 +1,5 @@
 -- One hint after another.
-use Rattle.std.proofs.Common.{◌≡◌, ℕ, ◌+◌, ◌<◌, Bool, true, false, cond, List, [], ◌∷◌, ◌++◌, length, get_or, drop, drop-cons, add-one, refl, sym, subst, ◌∙◌, ap, inl, inr, Option, Result, Ok, Err}
+use Rattle.std.proofs.Common.{◌≡◌, ℕ, ◌+◌, ◌<◌, Bool, false, List, length, get_or, drop, drop-cons, add-one, refl, sym, subst, ◌∙◌, ap, inl, inr, Option, Result, Ok, Err}
 use Rattle.std.specs.Prelude.{ℤ, pos, unsigned_abs}
 use Rattle.knox_cnf.specs.Literals.{Literal}
 use Rattle.lrat_check.specs.declared.step.Step.{Step}

@@ -2,3 +2,4 @@ pub mod PlaceLemmas
 pub mod LiteralLemmas
 pub mod HintSteps
 pub mod Sound
+pub mod KeptLemmas

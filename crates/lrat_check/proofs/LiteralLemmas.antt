@@ -1,13 +1,13 @@
 -- Literals, and their numbers in the table and the set of marks.
-use Rattle.std.proofs.Common.{◌≡◌, ℕ, ◌<◌, ◌≤◌, ◌==◌, Bool, true, false, cond, ◌||◌, List, [], ◌∷◌, ◌++◌, length, refl, sym, ◌∙◌, ap, arith, get_or-set_other, get_or-set_same, inl, inr}
+use Rattle.std.proofs.Common.{◌≡◌, ℕ, ◌<◌, ◌≤◌, ◌==◌, Bool, true, false, ◌||◌, List, [], ◌∷◌, ◌++◌, length, refl, sym, ◌∙◌, ap, arith, get_or-set_other, get_or-set_same, inl, inr}
 use Rattle.std.specs.Ordering.{nat_cmp}
-use Rattle.std.specs.BTreeSet.{BTreeSet, contains, Updates}
+use Rattle.std.specs.BTreeSet.{BTreeSet, Updates}
 use Rattle.std.proofs.lemmas.Bool.{eqb-true, eq-eqb, and_parts, and_from, false_from_ne_true, cases_eq}
 use Rattle.std.specs.BTreeMap.{is_at}
 use Rattle.std.specs.Cmp.{Equal-is}
 use Rattle.std.proofs.lemmas.Map.Lookups.{exact_unsigned}
 use Rattle.std.proofs.lemmas.List.Folds.{list_any-append}
-use Rattle.std.proofs.Math.ListN.{set, length-set, get_or}
+use Rattle.std.proofs.Math.ListN.{set, length-set}
 use Rattle.knox_cnf.specs.Literals.{Literal, literal, same_sign, same_literal, has}
 use Rattle.lrat_check.specs.Marks.{index_of, Tell}
 
@@ -63,10 +63,10 @@ apart n i j lt le e = omega arith
 pub Tell-near : (near : List Bool) (far : BTreeSet ℕ) (t : List Literal) (x : Literal) → Tell near far t → index_of x < length near → Tell (set near (index_of x) true) far (t ++ x ∷ [])
 Tell-near near far t x tell inside = record {
   near = λ l below. elim (cases_eq (index_of l) (index_of x)) [
-      | inl e ↦ (rw (index_of-injective l x e) (let lt : index_of x < length near = inside in rw get_or-set_same (sym (has-push_same t x))))
-      | inr ne ↦ (rw (has-push_other t x l ne) (rw (get_or-set_other near (index_of x) (index_of l) true false ne) (tell.near l (rw length-set at below))))
-    ];
-  past = λ l above. tell.past l (rw length-set at above) ∙ sym (has-push_other t x l (λ e. apart (length near) (index_of x) (index_of l) inside (rw length-set at above) e))
+    | inl e ↦ (rw (index_of-injective l x e) (let lt : index_of x < length near = inside in rw get_or-set_same (sym (has-push_same t x))))
+    | inr ne ↦ (rw (has-push_other t x l ne) (rw (get_or-set_other near (index_of x) (index_of l) true false ne) (tell.near l (rw length-set at below))))
+  ];
+  past = λ l above. tell.past l (rw length-set at above) ∙ sym (has-push_other t x l (λ e. apart (length near) (index_of x) (index_of l) inside (rw length-set at above) e));
 }
 
 not-at : (x y : ℕ) → (x ≡ y → ⊥) → is_at (nat_cmp x) y ≡ false
@@ -77,7 +77,7 @@ pub Tell-far : (near : List Bool) (far more : BTreeSet ℕ) (t : List Literal) (
 Tell-far near far more t x tell outside up = record {
   near = λ l below. tell.near l below ∙ sym (has-push_other t x l (λ e. apart (length near) (index_of l) (index_of x) below outside (sym e)));
   past = λ l above. elim (cases_eq (index_of l) (index_of x)) [
-      | inl e ↦ (rw (index_of-injective l x e) (up.1 ∙ sym (has-push_same t x)))
-      | inr ne ↦ (up.2 (index_of l) (not-at (index_of x) (index_of l) (λ e. ne (sym e))) ∙ tell.past l above ∙ sym (has-push_other t x l ne))
-    ]
+    | inl e ↦ (rw (index_of-injective l x e) (up.1 ∙ sym (has-push_same t x)))
+    | inr ne ↦ (up.2 (index_of l) (not-at (index_of x) (index_of l) (λ e. ne (sym e))) ∙ tell.past l above ∙ sym (has-push_other t x l ne))
+  ];
 }

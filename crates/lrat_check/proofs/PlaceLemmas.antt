@@ -1,9 +1,9 @@
 -- The places of ids: numbers from a first one on, and then ids that rise.
-use Rattle.std.proofs.Common.{◌≡◌, drop, drop-cons, take, ℕ, zero, suc, ◌+◌, ◌-◌, ◌<◌, ◌≤◌, ◌==◌, Bool, true, false, cond, ◌&&◌, List, [], ◌∷◌, ◌++◌, length, length-append, get_or, refl, sym, ◌∙◌, ap, arith, inl, inr, Option, Some, None, Ok, Err, Result, MatchResult, ◌⊎◌}
-use Rattle.std.specs.Prelude.{slice_set, slice_index, nat_lt}
+use Rattle.std.proofs.Common.{◌≡◌, drop, drop-cons, take, ℕ, zero, suc, ◌+◌, ◌-◌, ◌<◌, ◌≤◌, ◌==◌, Bool, true, false, cond, ◌&&◌, List, [], ◌∷◌, ◌++◌, length, length-append, get_or, refl, sym, ◌∙◌, ap, arith, inl, inr, Option, Some, None, Err}
+use Rattle.std.specs.Prelude.{slice_set, nat_lt}
 use Rattle.std.specs.List.{list_all}
 use Rattle.std.proofs.Math.Seq.{take-suc}
-use Rattle.std.proofs.lemmas.Bool.{true≢false, eqb-true, eq-eqb, false_from_ne_true, cases_eq, lt-ltb, ltb-true, ltb-false, le-ltb, cases_Bool, and_parts, and_from}
+use Rattle.std.proofs.lemmas.Bool.{true≢false, eqb-true, eq-eqb, false_from_ne_true, cases_eq, lt-ltb, ltb-true, ltb-false, cases_Bool, and_parts}
 use Rattle.std.proofs.lemmas.List.Folds.{list_all-append}
 use Rattle.lrat_check.specs.Register.{Rises, numbers_from, later, place_in, entries, place_of, live_place, if_live, is_new, revived, revived_at, Entries, deleted, delete_then, without}
 

@@ -2,7 +2,7 @@
 use Rattle.std.proofs.Common.{◌≡◌, ℕ, zero, suc, Bool, true, false, not, cond, ◌&&◌, List, [], ◌∷◌, ◌++◌, refl, sym, ◌∙◌, ap, inl, inr, Option, Some, None, Result, Ok, Err, map, append_assoc, get_or}
 use Rattle.std.specs.Prelude.{ℤ, unsigned_abs, slice_get}
 use Rattle.std.proofs.lemmas.Bool.{and_parts, and_from, cases_Bool, or_left, or_right, or_parts, true≢false, or_cases, not_from_true, cond_both}
-use Rattle.std.proofs.lemmas.List.Folds.{list_all-append, list_all-map}
+use Rattle.std.proofs.lemmas.List.Folds.{list_all-append}
 use Rattle.std.proofs.lemmas.List.{append-nil}
 use Rattle.std.specs.List.{list_any, list_all}
 use Rattle.knox_cnf.specs.Literals.{Literal, literal, complement, same_literal, has}
@@ -13,7 +13,7 @@ use Rattle.lrat_check.specs.declared.reading.Reading.TheVariants.{False, Unit as
 use Rattle.lrat_check.specs.declared.step.Step.{Step}
 use Rattle.lrat_check.specs.declared.lemma.Lemma.{Lemma}
 use Rattle.lrat_check.specs.Reading.{open_literals, reading_of_open, reading_of}
-use Rattle.lrat_check.specs.Register.{if_live, place_of, live_place}
+use Rattle.lrat_check.specs.Register.{if_live, place_of}
 use Rattle.lrat_check.specs.Hints.{after_reading, after_clause, go_on, take_hints, is_tautology, check}
 use Rattle.lrat_check.specs.Derivations.{Proof, lemma, lits_of, clauses_with, entries_with, clause_at, clause_of, live_clause, passed, passes, lrup, IsLrup, is_empty, is_closed}
 use Rattle.lrat_check.specs.Soundness.{LemmasFollow, IsUnsatisfiable}

@@ -3,4 +3,5 @@ pub mod Marks
 pub mod Reading
 pub mod Hints
 pub mod Derivations
+pub mod Kept
 pub mod Soundness

@@ -1,5 +1,5 @@
 -- What a derivation shows.
-use Rattle.std.specs.Prelude.{ℕ, ◌≡◌, Bool, true, List, map}
+use Rattle.std.specs.Prelude.{ℕ, ◌≡◌, Bool, true, map}
 use Rattle.knox_cnf.specs.Formulas.{clauses_true}
 use Rattle.lrat_check.specs.Derivations.{Proof, lits_of}
 

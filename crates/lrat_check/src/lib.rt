@@ -4,12 +4,16 @@
 #![tactic(auto)]
 
 mod checking;
+mod derivation;
 mod lemma;
 mod marks;
 mod places;
 mod reading;
 mod register;
 mod step;
+#[cfg(test)]
+mod tests;
 
+pub use derivation::Derivation;
 pub use lemma::Lemma;
 pub use step::Step;

@@ -72,8 +72,14 @@ impl Register {
         ensures ok { OnOk result (deleted self.old ids.now ≡ Ok self.new) }
         ensures refused { IfErr result (λ id. deleted self.old ids.now ≡ Err id) }
         ensures err { OnErr result (self.new ≡ self.old) }
+        ensures kept { self.new ≡ entries self.old.formula self.old.ids self.new.live }
     {
-        delete(self.formula, self.ids.as_slice(), self.live.as_mut_slice(), ids)
+        delete(
+            self.formula,
+            self.ids.as_slice(),
+            self.live.as_mut_slice(),
+            ids,
+        )
     }
 }
 

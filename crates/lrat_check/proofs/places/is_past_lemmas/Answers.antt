@@ -1,4 +1,3 @@
-use Rattle.std.proofs.Common.{sym}
 use Rattle.lrat_check.proofs.PlaceLemmas.{above-last}
 use Rattle.lrat_check.proofs.places.is_past_lemmas.Goals as goal
 

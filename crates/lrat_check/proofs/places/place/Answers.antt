@@ -1,4 +1,4 @@
-use Rattle.std.proofs.Common.{◌≡◌, ◌≤◌, ◌<◌, ℕ, [], Ok, Err, sym, ◌∙◌}
+use Rattle.std.proofs.Common.{[], Ok, Err, sym, ◌∙◌}
 use Rattle.std.proofs.lemmas.List.Sorted.{searched}
 use Rattle.std.proofs.lemmas.Bool.{true≢false}
 use Rattle.lrat_check.proofs.PlaceLemmas.{place_of-formula, place_of-lemma, place_of-none, Rises-weak, found_apart}

@@ -1,6 +1,5 @@
-use Rattle.std.proofs.Common.{◌≡◌, take, drop, ℕ, List, Bool}
-use Rattle.std.specs.Prelude.{Result}
-use Rattle.lrat_check.specs.Register.{Entries, entries, revived, deleted}
+use Rattle.std.proofs.Common.{◌≡◌, take, drop}
+use Rattle.lrat_check.specs.Register.{entries, revived, deleted}
 use Rattle.lrat_check.proofs.register.delete.Given as goal
 
 -- what is left to delete gives what all gives, and what was deleted can be made live again

@@ -1,4 +1,4 @@
-use Rattle.std.proofs.Common.{◌∙◌, ap, refl}
+use Rattle.std.proofs.Common.{◌∙◌, ap}
 use Rattle.lrat_check.specs.Register.{revived_at}
 use Rattle.lrat_check.proofs.PlaceLemmas.{revive-step}
 use Rattle.lrat_check.proofs.register.revive.Goals as goal

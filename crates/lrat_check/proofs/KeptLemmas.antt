@@ -1,0 +1,60 @@
+-- What holds of a derivation's fields is kept.
+use Rattle.std.proofs.Common.{◌≡◌, ℕ, Bool, true, false, ◌||◌, List, [], ◌∷◌, ◌++◌, refl, sym, ◌∙◌, ap, subst, Result, Ok, map, length}
+use Rattle.std.specs.Prelude.{ℤ}
+use Rattle.std.specs.List.{list_any}
+use Rattle.std.proofs.lemmas.List.Folds.{list_any-append}
+use Rattle.knox_cnf.specs.Literals.{Literal}
+use Rattle.knox_cnf.specs.declared.formula.Cnf.{Cnf}
+use Rattle.lrat_check.specs.declared.step.Step.{Step}
+use Rattle.lrat_check.specs.declared.lemma.Lemma.{Lemma}
+use Rattle.lrat_check.specs.Register.{Entries, entries, with_id}
+use Rattle.lrat_check.specs.Hints.{Answers, check}
+use Rattle.lrat_check.specs.Derivations.{proof, lemma, id_of, lits_of, clauses_with, entries_with, live_in, live_clause, is_empty, IsLrup}
+use Rattle.lrat_check.proofs.Sound.{IsLrup-push}
+
+-- ---- deleting
+
+pub register-kept : (cs : List (List Literal)) (ms : List Lemma) (old new : Entries) → old ≡ entries_with cs ms old.live → new ≡ entries old.formula old.ids new.live → new ≡ entries_with cs ms new.live
+register-kept cs ms old new e k = k ∙ ap (λ (x : Entries). entries x.formula x.ids new.live) e
+
+-- ---- checking
+
+pub answers-live : (cnf : Cnf) (ms : List Lemma) (register : Entries) (lits : List Literal) (hs : List ℤ) (r : Result (Unit {0}) Step) → register ≡ entries_with cnf.clauses ms register.live → Answers r (check (live_in register (clauses_with cnf.clauses ms)) lits hs) → Answers r (check (live_clause (proof cnf ms register.live)) lits hs)
+answers-live cnf ms register lits hs r e a = subst (λ (x : Entries). Answers r (check (live_in x (clauses_with cnf.clauses ms)) lits hs)) e a
+
+-- ---- adding
+
+pub add-lrup : (cnf : Cnf) (ms more : List Lemma) (live : List Bool) (n : ℕ) (lits : List Literal) (hs : List ℤ) (m : Lemma) → IsLrup cnf.clauses ms → check (live_clause (proof cnf ms live)) lits hs ≡ Ok tt → m ≡ lemma n lits hs → more ≡ ms ++ m ∷ [] → IsLrup cnf.clauses more
+add-lrup cnf ms more live n lits hs m i s e k = rw k (rw e (IsLrup-push (proof cnf ms live) n lits hs i s))
+
+ids-more : (ms : List Lemma) (m : Lemma) → map id_of ms ++ m.id ∷ [] ≡ map id_of (ms ++ m ∷ [])
+ids-more [] m = refl
+ids-more (x ∷ ms) m = ap (λ l. x.id ∷ l) (ids-more ms m)
+
+pub add-register : (cs : List (List Literal)) (ms more : List Lemma) (old new : Entries) (n : ℕ) (m : Lemma) → old ≡ entries_with cs ms old.live → m.id ≡ n → more ≡ ms ++ m ∷ [] → new ≡ with_id old n → new ≡ entries_with cs more new.live
+add-register cs ms more old new n m e i k w =
+    w ∙ ap (λ (x : Entries). entries x.formula (x.ids ++ n ∷ []) (old.live ++ true ∷ [])) e
+    ∙ ap (λ l. entries (length cs) (map id_of ms ++ n ∷ []) l) (sym (ap (λ (x : Entries). x.live) w))
+    ∙ ap (λ j. entries (length cs) (map id_of ms ++ j ∷ []) new.live) (sym i)
+    ∙ ap (λ l. entries (length cs) l new.live) (ids-more ms m ∙ ap (map id_of) (sym k))
+
+or_false : (b : Bool) → (b || false) ≡ b
+or_false true = refl
+or_false false = refl
+
+or_assoc : (a b c : Bool) → (a || (b || c)) ≡ ((a || b) || c)
+or_assoc true b c = refl
+or_assoc false b c = refl
+
+any-more : (ms : List Lemma) (m : Lemma) → list_any is_empty (map lits_of (ms ++ m ∷ [])) ≡ (list_any is_empty (map lits_of ms) || is_empty m.lits)
+any-more [] m = or_false (is_empty m.lits)
+any-more (x ∷ ms) m = ap (λ b. is_empty x.lits || b) (any-more ms m) ∙ or_assoc (is_empty x.lits) (list_any is_empty (map lits_of ms)) (is_empty m.lits)
+
+pub add-closed : (cs : List (List Literal)) (ms more : List Lemma) (m : Lemma) (lits : List Literal) (old new : Bool) → old ≡ list_any is_empty (clauses_with cs ms) → new ≡ (old || is_empty lits) → m.lits ≡ lits → more ≡ ms ++ m ∷ [] → new ≡ list_any is_empty (clauses_with cs more)
+add-closed cs ms more m lits old new o w l k =
+    w ∙ ap (λ b. b || is_empty lits) (o ∙ list_any-append is_empty cs (map lits_of ms))
+    ∙ ap (λ c. (list_any is_empty cs || list_any is_empty (map lits_of ms)) || is_empty c) (sym l)
+    ∙ sym (or_assoc (list_any is_empty cs) (list_any is_empty (map lits_of ms)) (is_empty m.lits))
+    ∙ ap (λ b. list_any is_empty cs || b) (sym (any-more ms m))
+    ∙ sym (list_any-append is_empty cs (map lits_of (ms ++ m ∷ [])))
+    ∙ ap (λ ls. list_any is_empty (clauses_with cs ls)) (sym k)
