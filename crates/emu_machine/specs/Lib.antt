@@ -1,2 +1,4 @@
 pub mod Fits
 pub mod Emulator
+pub mod Dialogue
+pub mod Meaning

@@ -1,0 +1,78 @@
+-- The device that a circuit, a specification, a driver and an emulator are, for the two worlds; and its design, for scripts.
+-- The project's own. Everybody must believe `device_of`: it is what the parts of a yes are. Nobody has to believe `design_of` for a yes.
+use Rattle.std.specs.Prelude.{ℕ, List, [], length, slice_get, map, Option, Some, None, Bool, true, false}
+use Rattle.knox_words.specs.Bits.{Bits}
+use Rattle.knox_theory.specs.Device.{OutOfTurns, Device}
+use Rattle.knox_theory.specs.Design.{Part, Config, Design}
+use Rattle.knox_circuit.specs.Circuit.{Circuit, cells_of, output_words, state_after_tick, state_widths, input_widths}
+use Rattle.knox_circuit.specs.Power.{factory_state, state_after_power, states_of, noise_widths, persistent_words, persistent_widths, spread_words}
+use Rattle.knox_lang.specs.declared.parts.OpHead.{OpHead}
+use Rattle.knox_lang.specs.declared.parts.SpecParts.{SpecParts}
+use Rattle.knox_lang.specs.declared.parts.DriverParts.{DriverParts}
+use Rattle.knox_lang.specs.declared.parts.EmuParts.{EmuParts}
+use Rattle.knox_lang.specs.Operation.{op_after, op_result, arg_widths}
+use Rattle.knox_lang.specs.WellFormed.{word_widths}
+use Rattle.emu_machine.specs.Emulator.{emulator_outputs}
+use Rattle.emu_machine.specs.Dialogue.{tick_dialogue}
+
+-- the widths of the arguments of an operation, and of its result; none where there is no such operation
+abbrev pub head_args : Option OpHead → List ℕ
+head_args None = []
+head_args (Some h) = arg_widths h
+
+abbrev pub head_result : Option OpHead → ℕ
+head_result None = 0
+head_result (Some h) = h.result
+
+-- The device. A power-cycle is one of the device words that have the persistent words in their cells and zeros elsewhere: nothing else is left of them.
+-- A driver has no bodies yet: a call of one would run past its bound at once. Worlds without calls don't ask it.
+unfoldable pub device_of : Circuit → SpecParts → DriverParts → EmuParts → Device
+device_of c s d e = record {
+  noise = noise_widths (states_of c.lines) d.keep;
+  factory_noise = noise_widths (states_of c.lines) [];
+  ins = input_widths c.lines;
+  ops = length s.ops;
+  args = λ o. head_args (slice_get s.ops o);
+  idle = d.idle;
+  factory = λ noise. factory_state c.lines noise;
+  persistent_of = λ cells. persistent_words (cells_of c.lines) d.keep cells;
+  power = λ persistent noise. state_after_power c.lines d.keep (spread_words (cells_of c.lines) d.keep persistent) noise;
+  outs = λ cells ins. output_words c.lines cells ins;
+  tick = λ cells ins. state_after_tick c.lines cells ins;
+  drive = λ o args cells. (OutOfTurns, cells);
+  initial = s.init;
+  op = λ o args fields. (op_result s o fields args, op_after s o fields args);
+  first_kept = [];
+  emu_power = λ noise kept. (e.init, []);
+  kept_of = λ emu. [];
+  emu_outs = λ emu copy ins. emulator_outputs e emu ins;
+  emu_tick = λ emu copy ins. tick_dialogue e emu ins;
+}
+
+-- words all of which are taken: none is of a ROM
+abbrev pub all_taken : List ℕ → Part
+all_taken ws = record { widths = ws; fill = λ words. words; strip = λ words. words }
+
+-- a driver without bodies is at its end from the start on
+abbrev pub at_end : List Bits → List Bits → Config (Unit {0})
+at_end cells inputs = record { left = tt; cells = cells; inputs = inputs; locals = [] }
+
+-- the design: the widths of all words, and no moves of the driver
+unfoldable pub design_of : Circuit → SpecParts → DriverParts → EmuParts → Design (Unit {0})
+design_of c s d e = record {
+  device = device_of c s d e;
+  fields = word_widths s.init;
+  result = λ o. head_result (slice_get s.ops o);
+  cells = all_taken (state_widths (cells_of c.lines));
+  persistent = all_taken (persistent_widths (cells_of c.lines) d.keep);
+  emu = word_widths e.init;
+  copy = all_taken [];
+  kept = [];
+  start = λ o args cells. at_end cells d.idle;
+  move = λ c. c;
+  move_tests = λ c. [];
+  ended = λ c. true;
+  ticks_left = λ c. 0;
+  reply = λ left. OutOfTurns;
+  fits_config = λ o c. true;
+}
