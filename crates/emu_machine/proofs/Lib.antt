@@ -1,1 +1,4 @@
 pub mod TickLemmas
+pub mod DialogueLemmas
+pub mod AskingLemmas
+pub mod DesignLemmas

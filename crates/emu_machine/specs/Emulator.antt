@@ -1,6 +1,6 @@
 -- What an emulator shows and what it does at a tick. It sees its own fields and the inputs, and
 -- asks the specification, whose fields it has no name for. The project's own.
-use Rattle.std.specs.Prelude.{ℕ, List, [], map}
+use Rattle.std.specs.Prelude.{List, [], map}
 use Rattle.knox_words.specs.Bits.{Bits}
 use Rattle.knox_lang.specs.declared.scope.Spaces.{Spaces}
 use Rattle.knox_lang.specs.declared.parts.SpecParts.{SpecParts}

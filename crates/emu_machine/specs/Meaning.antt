@@ -1,6 +1,6 @@
 -- The device that a circuit, a specification, a driver and an emulator are, for the two worlds; and its design, for scripts.
 -- The project's own. Everybody must believe `device_of`: it is what the parts of a yes are. Nobody has to believe `design_of` for a yes.
-use Rattle.std.specs.Prelude.{ℕ, List, [], length, slice_get, map, Option, Some, None, Bool, true, false}
+use Rattle.std.specs.Prelude.{ℕ, List, [], length, slice_get, Option, Some, None, true}
 use Rattle.knox_words.specs.Bits.{Bits}
 use Rattle.knox_theory.specs.Device.{OutOfTurns, Device}
 use Rattle.knox_theory.specs.Design.{Part, Config, Design}

@@ -1,0 +1,53 @@
+//! Laws of devices, as functions that do nothing.
+ghost use Rattle.std.specs.Prelude.{◌≡◌, List, [], true, false};
+ghost use Rattle.knox_words.specs.Bits.{Bits};
+ghost use Rattle.knox_words.specs.Lists.{fit};
+ghost use Rattle.knox_theory.specs.Device.{answered};
+ghost use Rattle.knox_theory.specs.Lawful.{FitsAsking, IsWireDesign};
+ghost use Rattle.knox_circuit.specs.Circuit.{Circuit as Lines};
+ghost use Rattle.knox_lang.specs.declared.parts.SpecParts.{SpecParts};
+ghost use Rattle.knox_lang.specs.declared.parts.DriverParts.{DriverParts};
+ghost use Rattle.knox_lang.specs.declared.parts.EmuParts.{EmuParts};
+ghost use Rattle.knox_lang.specs.WellFormed.{spec_fits, emulator_fits, word_widths};
+ghost use Rattle.emu_machine.specs.Emulator.{emulator_after_tick, fields_after_tick};
+ghost use Rattle.emu_machine.specs.Dialogue.{tick_dialogue};
+ghost use Rattle.emu_machine.specs.Fits.{same_heads, fits_device};
+ghost use Rattle.emu_machine.specs.Meaning.{device_of, design_of};
+
+use knox_circuit::Circuit;
+use knox_words::Word;
+
+/// The dialogue of a tick, answered by the specification, ends with the words that the tick leaves:
+/// the specification's fields and the emulator's own.
+pub fn dialogue_is_the_tick()
+    ensures dialogue { (c : Lines) (s : SpecParts) (d : DriverParts) (p : EmuParts) (fields emu ins : List Bits) → answered (device_of c s d p) fields (tick_dialogue p emu ins) ≡ record { fields = fields_after_tick s p fields emu ins; emu = emulator_after_tick s p fields emu ins; copy = [] } }
+    ensures asked { (c : Lines) (s : SpecParts) (d : DriverParts) (p : EmuParts) (emu copy ins : List Bits) → (device_of c s d p).emu_tick emu copy ins ≡ tick_dialogue p emu ins }
+{}
+
+/// Whatever words of the results' widths are replied, a tick of an emulator without a copy of the
+/// circuit asks for operations that exist, with words for their arguments, and ends with words that fit.
+pub fn queries_are_of_operations()
+    ensures { (c : Lines) (s : SpecParts) (d : DriverParts) (p : EmuParts) (emu ins : List Bits) → spec_fits s ≡ true → emulator_fits p ≡ true → p.copy ≡ false → same_heads p.ops s.ops ≡ true → fit (word_widths p.init) emu ≡ true → fit p.ins ins ≡ true → FitsAsking (design_of c s d p) (tick_dialogue p emu ins) }
+{}
+
+/// Words are words of their own widths.
+#[tactic(auto, using(crate::proofs::DesignLemmas::own_words))]
+fn words_have_widths(words: &[Word])
+    ensures { fit (word_widths words.now) words.now ≡ true }
+{
+    let mut left = words;
+    while let Some((word, more)) = left.split_first() {
+        let _width = word.width();
+        left = more;
+    }
+}
+
+/// Parts that fit each other, where the emulator has no copy of the circuit, make a lawful design
+/// for wires.
+pub fn parts_make_designs(c: &Circuit)
+    ensures { (s : SpecParts) (d : DriverParts) (e : EmuParts) → spec_fits s ≡ true → emulator_fits e ≡ true → e.copy ≡ false → fits_device c.now s d e ≡ true → fit (word_widths d.idle) d.idle ≡ true → IsWireDesign (design_of c.now s d e) }
+{
+    knox_circuit::circuits_keep_widths(c);
+    knox_circuit::power_keeps_persistent_words(c);
+    knox_circuit::persistent_words_are_spread(c);
+}
