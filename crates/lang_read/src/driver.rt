@@ -3,7 +3,7 @@ use crate::fault::{LangFault, LangWhy, fault};
 use crate::names::{Group, Named, declare_cells, find};
 use crate::views::{behind_first, behind_head, first_of, no_more, place_of, symbol_of};
 use knox_circuit::{Circuit, Port};
-use knox_lang::{DriverParts, DriverProgram, OpHead, SpecProgram};
+use knox_lang::{DriverParts, DriverProgram, SpecProgram};
 use knox_sexpr::Tree;
 use knox_text::Place;
 use knox_words::{Word, Words, zero};
@@ -33,30 +33,6 @@ pub(crate) fn widths_of(alloc: Global, ports: &[Port]) -> Result<Items<u8>, Allo
         widths.push(port.width)?;
     }
     Ok(widths)
-}
-
-fn copied_args(
-    alloc: Global,
-    args: &[(Items<u8>, u8)],
-) -> Result<Items<(Items<u8>, u8)>, AllocError> {
-    let mut copy = Items::new(alloc);
-    for arg in args {
-        let name = Items::from_slice(alloc, arg.0.as_slice())?;
-        copy.push((name, arg.1))?;
-    }
-    Ok(copy)
-}
-
-/// The heads of the specification's operations once more.
-pub(crate) fn copied_ops(alloc: Global, ops: &[OpHead]) -> Result<Items<OpHead>, AllocError> {
-    let mut copy = Items::new(alloc);
-    for op in ops {
-        let name = Items::from_slice(alloc, op.name.as_slice())?;
-        let args = copied_args(alloc, op.args.as_slice())?;
-        let result = op.result;
-        copy.push(OpHead { name, args, result })?;
-    }
-    Ok(copy)
 }
 
 fn all_volatile(alloc: Global, count: usize) -> Result<Items<bool>, AllocError> {
@@ -108,13 +84,14 @@ fn keep_of(alloc: Global, parts: &[Tree], c: &Circuit) -> Result<Items<bool>, La
 }
 
 /// The driver that the trees of a text mean over a circuit and a specification, where the text
-/// ends at a place. Read today is `persistent` alone, so that no operation has a body.
+/// ends at a place. Read today is `persistent` alone, so that the driver has no operations, and is
+/// for wires alone.
 pub fn read_driver(
     alloc: Global,
     trees: &[Tree],
     end: Place,
     c: &Circuit,
-    s: &SpecProgram,
+    _s: &SpecProgram,
 ) -> Result<DriverProgram, LangFault> {
     let tree = first_of(trees, end)?;
     let keep = keep_of(alloc, behind_head(tree, b"driver")?, c)?;
@@ -124,8 +101,11 @@ pub fn read_driver(
         keep,
         outs: widths_of(alloc, c.outputs_list())?,
         funs: Items::new(alloc),
-        ops: copied_ops(alloc, s.ops())?,
+        ops: Items::new(alloc),
         bodies: Items::new(alloc),
     };
-    Ok(DriverProgram::new(parts))
+    match DriverProgram::new(parts) {
+        Some(driver) => Ok(driver),
+        None => Err(fault(place_of(tree), LangWhy::Width)),
+    }
 }

@@ -1,6 +1,6 @@
 //! Emulators: `(emulator (field x w n) .. (outputs (x e) ..) (tick (local x w) .. stmt ..))`, where
 //! each part may be left out.
-use crate::driver::{copied_ops, widths_of, zero_of};
+use crate::driver::{widths_of, zero_of};
 use crate::expression::{Typed, expr_of_width};
 use crate::fault::{LangFault, LangWhy, fault};
 use crate::fields::{field_names, fields_of};
@@ -25,6 +25,30 @@ fn empty_body(alloc: Global) -> Body {
         stmts: Items::new(alloc),
         result: None,
     }
+}
+
+fn copied_args(
+    alloc: Global,
+    args: &[(Items<u8>, u8)],
+) -> Result<Items<(Items<u8>, u8)>, AllocError> {
+    let mut copy = Items::new(alloc);
+    for arg in args {
+        let name = Items::from_slice(alloc, arg.0.as_slice())?;
+        copy.push((name, arg.1))?;
+    }
+    Ok(copy)
+}
+
+/// The heads of the specification's operations once more.
+fn copied_ops(alloc: Global, ops: &[OpHead]) -> Result<Items<OpHead>, AllocError> {
+    let mut copy = Items::new(alloc);
+    for op in ops {
+        let name = Items::from_slice(alloc, op.name.as_slice())?;
+        let args = copied_args(alloc, op.args.as_slice())?;
+        let result = op.result;
+        copy.push(OpHead { name, args, result })?;
+    }
+    Ok(copy)
 }
 
 /// The circuit's cells as fields.
@@ -234,5 +258,8 @@ pub fn read_emulator(
     let tree = first_of(trees, end)?;
     let parts = emu_parts(alloc, tree, c, s)?;
     no_more(behind_first(trees))?;
-    Ok(EmuProgram::new(parts))
+    match EmuProgram::new(parts) {
+        Some(emulator) => Ok(emulator),
+        None => Err(fault(place_of(tree), LangWhy::Width)),
+    }
 }

@@ -11,7 +11,7 @@ use crate::views::{
     behind_first, behind_head, first_of, headed_count, is_headed, no_more, parts_of, place_of,
     symbol_of, width_of,
 };
-use knox_lang::{Body, OpHead, Space, SpecParts, SpecProgram, fits_spec};
+use knox_lang::{Body, OpHead, Space, SpecParts, SpecProgram};
 use knox_sexpr::Tree;
 use knox_text::Place;
 use sqlite_items::Items;
@@ -158,8 +158,8 @@ pub fn read_spec(alloc: Global, trees: &[Tree], end: Place) -> Result<SpecProgra
     let tree = first_of(trees, end)?;
     let parts = spec_parts(alloc, tree)?;
     no_more(behind_first(trees))?;
-    if !fits_spec(&parts) {
-        return Err(fault(place_of(tree), LangWhy::Form));
+    match SpecProgram::new(parts) {
+        Some(spec) => Ok(spec),
+        None => Err(fault(place_of(tree), LangWhy::Width)),
     }
-    Ok(SpecProgram::new(parts))
 }
