@@ -10,13 +10,23 @@ use knox_lang::{DriverProgram, EmuProgram, SpecProgram};
 /// words, outputs and persistent cells are those of the circuit, the emulator's inputs and outputs
 /// too. The emulator's operations are those of the specification; so are the driver's, or it has
 /// none: it is for wires alone then.
-#[derive(Drop)]
 pub struct Device {
     pub circuit: Circuit,
     pub spec: SpecProgram,
     pub driver: DriverProgram,
     pub emulator: EmuProgram,
     pub ghost fits: { fits_device circuit spec driver emulator ≡ true },
+}
+
+impl Drop for Device {
+    fn drop(self) {
+        let Device {
+            circuit: _circuit,
+            spec: _spec,
+            driver: _driver,
+            emulator: _emulator,
+        } = self;
+    }
 }
 
 impl Device {

@@ -14,6 +14,7 @@ ghost use Rattle.emu_machine.specs.Dialogue.{tick_dialogue};
 ghost use Rattle.emu_machine.specs.Fits.{same_heads, fits_device};
 ghost use Rattle.emu_machine.specs.Meaning.{device_of, design_of};
 
+use crate::device::Device;
 use knox_circuit::Circuit;
 use knox_words::Word;
 
@@ -50,4 +51,14 @@ pub fn parts_make_designs(c: &Circuit)
     knox_circuit::circuits_keep_widths(c);
     knox_circuit::power_keeps_persistent_words(c);
     knox_circuit::persistent_words_are_spread(c);
+}
+
+/// The design of a device whose emulator has no copy of the circuit is lawful for wires.
+pub fn devices_are_designs(dev: &Device)
+    ensures { dev.now.emulator.copy ≡ false → IsWireDesign (design_of dev.now.circuit dev.now.spec dev.now.driver dev.now.emulator) }
+{
+    dev.spec.is_well_formed();
+    dev.emulator.is_well_formed();
+    words_have_widths(dev.driver.idle());
+    parts_make_designs(&dev.circuit);
 }

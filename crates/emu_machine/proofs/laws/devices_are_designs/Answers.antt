@@ -1,0 +1,10 @@
+use Rattle.std.proofs.Common.{◌≡◌, true, subst}
+use Rattle.knox_words.specs.Lists.{fit}
+use Rattle.knox_lang.specs.WellFormed.{word_widths}
+use Rattle.emu_machine.proofs.laws.devices_are_designs.Goals as goal
+
+pub returns : goal.returns
+returns c alone =
+    let dev = c.args.dev.now in
+    c.parts_make_designs.ensures dev.spec dev.driver dev.emulator c.is_well_formed.ensures c.is_well_formed-2.ensures alone dev.fits
+    (subst (λ words. fit (word_widths words) words ≡ true) c.idle.ensures c.words_have_widths.ensures)
