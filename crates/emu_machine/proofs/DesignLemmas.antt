@@ -1,5 +1,5 @@
 -- A device's design is lawful, from the laws of its circuit and of its programs.
-use Rattle.std.proofs.Common.{◌≡◌, ℕ, zero, suc, ◌<◌, ◌==◌, ◌&&◌, List, [], ◌∷◌, Bool, true, false, refl, ap, sym, ◌∙◌, subst, Option, Some, None, map, length, slice_get, eqb-true, arith}
+use Rattle.std.proofs.Common.{◌≡◌, ℕ, zero, suc, ◌<◌, ◌==◌, ◌&&◌, List, [], ◌∷◌, Bool, true, false, not, refl, ap, sym, ◌∙◌, subst, Option, Some, None, map, length, slice_get, eqb-true, arith}
 use Rattle.knox_words.specs.Bits.{Bits, IsWord}
 use Rattle.knox_words.specs.Lists.{Words, fit, fits}
 use Rattle.knox_words.proofs.Lists.{fits-from}
@@ -124,6 +124,11 @@ pub record FitTogether (c : Circuit) (s : SpecParts) (d : DriverParts) (e : EmuP
   pub keep : length d.keep ≡ length (cells_of c.lines)
   pub same : same_heads e.ops s.ops ≡ true
   pub ins : have_widths e.ins (inputs c) ≡ true
+  pub alone : e.copy ≡ false
+
+not-true : (b : Bool) → not b ≡ true → b ≡ false
+not-true true h = cc
+not-true false h = refl
 
 pub fit-together : (c : Circuit) (s : SpecParts) (d : DriverParts) (e : EmuParts) → fits_device c s d e ≡ true → FitTogether c s d e
 unfolding fits_device
@@ -134,19 +139,20 @@ fit-together c s d e h =
     let emulator : fits_emulator c e ≡ true = and_second _ (fits_emulator c e) h in
     let ports : words_fit (inputs c) d.idle && have_widths d.outs (outputs c) ≡ true = and_first _ (length d.keep == length (cells_of c.lines)) circuit in
     let heads : _ && same_heads e.ops s.ops ≡ true = and_first _ (length s.funs == 0) (and_first _ (length d.funs == 0) (and_first _ (length e.funs == 0) spec)) in
-    let wires : have_widths e.ins (inputs c) && have_widths e.outs (outputs c) ≡ true = and_first _ (length e.outputs == length (outputs c)) emulator in
+    let wires : have_widths e.ins (inputs c) && have_widths e.outs (outputs c) ≡ true = and_first _ (length e.outputs == length (outputs c)) (and_first _ (not e.copy) emulator) in
     record {
       idle = and_first (words_fit (inputs c) d.idle) (have_widths d.outs (outputs c)) ports;
       keep = eqb-true (length d.keep) (length (cells_of c.lines)) (and_second _ (length d.keep == length (cells_of c.lines)) circuit);
       same = and_second _ (same_heads e.ops s.ops) heads;
       ins = and_first (have_widths e.ins (inputs c)) (have_widths e.outs (outputs c)) wires;
+      alone = not-true e.copy (and_second _ (not e.copy) emulator);
     }
 
 pub parts-make-design : (c : Circuit) (s : SpecParts) (d : DriverParts) (e : EmuParts) → (length d.keep ≡ length (cells_of c.lines) → CircuitLaws c d.keep) →
-    spec_fits s ≡ true → emulator_fits e ≡ true → e.copy ≡ false → fits_device c s d e ≡ true → fit (word_widths d.idle) d.idle ≡ true → IsWireDesign (design_of c s d e)
-parts-make-design c s d e laws spec ok alone fits own =
+    spec_fits s ≡ true → emulator_fits e ≡ true → fits_device c s d e ≡ true → fit (word_widths d.idle) d.idle ≡ true → IsWireDesign (design_of c s d e)
+parts-make-design c s d e laws spec ok fits own =
     let together = fit-together c s d e fits in
-    is-wire-design c s d e (laws together.keep) (idle-fits c d.idle together.idle own) spec ok alone together.same together.ins
+    is-wire-design c s d e (laws together.keep) (idle-fits c d.idle together.idle own) spec ok together.alone together.same together.ins
 
 -- a word is one of its own width
 pub word-goes : (a : Bits) (as' : Words) → IsWord a → fit (word_widths (a ∷ as')) (a ∷ as') ≡ fit (word_widths as') as'

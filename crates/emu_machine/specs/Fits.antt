@@ -1,6 +1,6 @@
 -- When circuit, specification, driver and emulator fit each other. The project's own.
 -- Functions of a specification are not shared yet: all three have none.
-use Rattle.std.specs.Prelude.{ℕ, ◌==◌, ◌&&◌, List, [], ◌∷◌, length, reverse, Bool, true, false}
+use Rattle.std.specs.Prelude.{ℕ, ◌==◌, ◌&&◌, List, [], ◌∷◌, length, reverse, Bool, true, false, not}
 use Rattle.std.specs.Str.{bytes_eq}
 use Rattle.knox_words.specs.Bits.{Bits}
 use Rattle.knox_circuit.specs.declared.circuit.Port.{Port}
@@ -66,9 +66,9 @@ abbrev pub fits_specification : SpecParts → DriverParts → EmuParts → Bool
 fits_specification s d e = drives d.ops s.ops && same_heads e.ops s.ops && length s.funs == 0 && length d.funs == 0 && length e.funs == 0
 
 -- an emulator of a circuit: it knows the widths of inputs and outputs, and has an expression for
--- each output
+-- each output. It has no copy of the circuit yet
 abbrev pub fits_emulator : Circuit → EmuParts → Bool
-fits_emulator c e = have_widths e.ins (inputs c) && have_widths e.outs (outputs c) && length e.outputs == length (outputs c)
+fits_emulator c e = have_widths e.ins (inputs c) && have_widths e.outs (outputs c) && length e.outputs == length (outputs c) && not e.copy
 
 -- the parts of a device
 unfoldable pub fits_device : Circuit → SpecParts → DriverParts → EmuParts → Bool

@@ -127,13 +127,14 @@ fn fits_specification(s: &SpecParts, d: &DriverParts, e: &EmuParts) -> bool
         && e.funs.is_empty()
 }
 
-/// Whether an emulator is one of this circuit.
+/// Whether an emulator is one of this circuit, without a copy of it.
 fn fits_emulator(c: &Circuit, e: &EmuParts) -> bool
     ensures { result ≡ fits_emulator c.now e.now }
 {
     have_widths(e.ins.as_slice(), c.inputs())
         && have_widths(e.outs.as_slice(), c.outputs_list())
         && e.outputs.len() == c.outputs_list().len()
+        && !e.copy
 }
 
 /// Whether the parts of a device fit each other.

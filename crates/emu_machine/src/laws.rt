@@ -43,19 +43,18 @@ fn words_have_widths(words: &[Word])
     }
 }
 
-/// Parts that fit each other, where the emulator has no copy of the circuit, make a lawful design
-/// for wires.
+/// Parts that fit each other make a lawful design for wires.
 pub fn parts_make_designs(c: &Circuit)
-    ensures { (s : SpecParts) (d : DriverParts) (e : EmuParts) → spec_fits s ≡ true → emulator_fits e ≡ true → e.copy ≡ false → fits_device c.now s d e ≡ true → fit (word_widths d.idle) d.idle ≡ true → IsWireDesign (design_of c.now s d e) }
+    ensures { (s : SpecParts) (d : DriverParts) (e : EmuParts) → spec_fits s ≡ true → emulator_fits e ≡ true → fits_device c.now s d e ≡ true → fit (word_widths d.idle) d.idle ≡ true → IsWireDesign (design_of c.now s d e) }
 {
     knox_circuit::circuits_keep_widths(c);
     knox_circuit::power_keeps_persistent_words(c);
     knox_circuit::persistent_words_are_spread(c);
 }
 
-/// The design of a device whose emulator has no copy of the circuit is lawful for wires.
+/// The design of a device is lawful for wires.
 pub fn devices_are_designs(dev: &Device)
-    ensures { dev.now.emulator.copy ≡ false → IsWireDesign (design_of dev.now.circuit dev.now.spec dev.now.driver dev.now.emulator) }
+    ensures { IsWireDesign (design_of dev.now.circuit dev.now.spec dev.now.driver dev.now.emulator) }
 {
     dev.spec.is_well_formed();
     dev.emulator.is_well_formed();

@@ -4,7 +4,7 @@ use Rattle.knox_lang.specs.WellFormed.{word_widths}
 use Rattle.emu_machine.proofs.laws.devices_are_designs.Goals as goal
 
 pub returns : goal.returns
-returns c alone =
+returns c =
     let dev = c.args.dev.now in
-    c.parts_make_designs.ensures dev.spec dev.driver dev.emulator c.is_well_formed.ensures c.is_well_formed-2.ensures alone dev.fits
+    c.parts_make_designs.ensures dev.spec dev.driver dev.emulator c.is_well_formed.ensures c.is_well_formed-2.ensures dev.fits
     (subst (λ words. fit (word_widths words) words ≡ true) c.idle.ensures c.words_have_widths.ensures)

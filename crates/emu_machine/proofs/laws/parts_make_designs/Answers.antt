@@ -2,7 +2,7 @@ use Rattle.emu_machine.proofs.DesignLemmas.{parts-make-design}
 use Rattle.emu_machine.proofs.laws.parts_make_designs.Goals as goal
 
 pub returns : goal.returns
-returns c s d e spec ok alone fits own = parts-make-design c.args.c.now s d e (λ keep. record {
+returns c s d e spec ok fits own = parts-make-design c.args.c.now s d e (λ keep. record {
   tick = λ state ins f g. c.circuits_keep_widths.ensures.tick state ins f g;
   factory = λ noise f. c.circuits_keep_widths.ensures.factory noise f;
   power = λ state noise f g. c.circuits_keep_widths.ensures.power d.keep state noise keep f g;
@@ -10,4 +10,4 @@ returns c s d e spec ok alone fits own = parts-make-design c.args.c.now s d e (�
   fitting = λ state f. c.persistent_words_are_spread.ensures.fitting d.keep state f;
   spread = λ words f. c.persistent_words_are_spread.ensures.spread d.keep words f;
   back = λ words f. c.persistent_words_are_spread.ensures.back d.keep words f;
-}) spec ok alone fits own
+}) spec ok fits own
