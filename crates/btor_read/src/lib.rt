@@ -3,9 +3,13 @@
 //! the numbers of a line's form, and `knox_circuit::Draft` tests line after line.
 #![tactic(auto)]
 
+mod examples;
 mod keyword;
 mod operands;
 mod reading;
+#[cfg(test)]
+mod tests;
 mod tokens;
 
+pub use examples::{circuits_as_expected, lines_as_expected};
 pub use reading::read_circuit;

@@ -45,6 +45,11 @@ fn shape(alloc: Global, tokens: &mut Tokens) -> Result<Shape, Why>
     }
 }
 
+/// The rule that a number breaks that isn't above the last one.
+fn misnumbered(number: u32) -> Why {
+    if number == 0 { Why::Number } else { Why::Order }
+}
+
 /// The line on text line `at`, whose number has to be above the last one.
 #[tactic(auto, using(crate::proofs::Rows::above_steps))]
 fn line(alloc: Global, at: u32, last: u32, tokens: &mut Tokens) -> Result<Line, Why>
@@ -53,7 +58,7 @@ fn line(alloc: Global, at: u32, last: u32, tokens: &mut Tokens) -> Result<Line, 
 {
     let number = operands::number_at(tokens, Why::Number)?;
     if number <= last {
-        return Err(Why::Order);
+        return Err(misnumbered(number));
     }
     let shape = shape(alloc, tokens)?;
     let symbol = symbol(alloc, tokens)?;

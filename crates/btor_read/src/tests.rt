@@ -1,0 +1,162 @@
+//! Texts that are read, and texts that are refused at their lines.
+use crate::read_circuit;
+use knox_circuit::{BtorFault, Circuit, Why};
+use std::alloc::Global;
+
+const DEVICE: &[u8] = b"1 sort bitvec 1
+3 sort bitvec 4
+5 zero 3
+9 input 3 data ; what is stored
+10 state 3 secret
+11 init 3 10 5
+
+16 next 3 10 9\r
+17\teq 1 9 10
+21 output 17 ok";
+
+fn read(alloc: Global, text: &[u8]) -> Result<Circuit, BtorFault> {
+    if text.len() > 67108864 {
+        return Err(BtorFault {
+            line: 0,
+            why: Why::Memory,
+        });
+    }
+    read_circuit(alloc, text)
+}
+
+fn is_read(alloc: Global, text: &[u8]) -> bool {
+    read(alloc, text).is_ok()
+}
+
+fn is_refused(alloc: Global, text: &[u8], line: u32, why: Why) -> bool {
+    match read(alloc, text) {
+        Ok(_) => false,
+        Err(fault) => fault.line == line && fault.why == why,
+    }
+}
+
+fn has_sizes(alloc: Global, text: &[u8], lines: usize, inputs: usize, cells: usize) -> bool {
+    match read(alloc, text) {
+        Ok(circuit) => {
+            circuit.lines().len() == lines
+                && circuit.inputs().len() == inputs
+                && circuit.cells().len() == cells
+        }
+        Err(_) => false,
+    }
+}
+
+/// Texts of the form in unusual spelling.
+const UNUSUAL: [&[u8]; 10] = [
+    b"; a comment alone",
+    b"\n\n  \t\n",
+    b"1 sort bitvec 1\r\n2 zero 1\r\n",
+    b"0001 sort bitvec 08",
+    b"  1\tsort \t bitvec  3\t",
+    b"1 sort bitvec 1 a;b",
+    b"1 sort bitvec 1 ;a b c",
+    b"1 sort bitvec 1 x ; y",
+    b"7 sort bitvec 8\n4294967295 constd 7 000255 @7",
+    b"1 sort bitvec 1\n2 sort bitvec 1\n3 zero 1\n4 not 2 3",
+];
+
+/// Texts that are one edit away from the form.
+const REFUSED: [&[u8]; 44] = [
+    b"1",
+    b"sort bitvec 1",
+    b"x sort bitvec 1",
+    b"-1 sort bitvec 1",
+    b"+1 sort bitvec 1",
+    b"0 sort bitvec 1",
+    b"4294967296 sort bitvec 1",
+    b"1 sort",
+    b"1 sort bitvec",
+    b"1 sort bitvec x",
+    b"1 sort bitvec 0",
+    b"1 sort bitvec 9",
+    b"1 sort bitvec 1 a b",
+    b"1 sort bitvec 1;a b",
+    b"1 sort bitvec 1\r",
+    b"1 sort bitvec 1\r\r\n",
+    b"1 Sort bitvec 1",
+    b"1 sort bitvec\x0b1",
+    b"1 sort bitvec 1\n1 zero 1",
+    b"2 sort bitvec 1\n1 zero 2",
+    b"1 sort bitvec 1\n2 zero 2",
+    b"1 sort bitvec 1\n2 zero 3",
+    b"1 sort bitvec 1\n2 zero -1",
+    b"1 sort bitvec 1\n2 one 1",
+    b"1 sort bitvec 1\n2 ones 1",
+    b"1 sort bitvec 1\n2 const 1 1",
+    b"1 sort bitvec 1\n2 consth 1 1",
+    b"1 sort bitvec 1\n2 constd 1",
+    b"1 sort bitvec 1\n2 constd 1 2",
+    b"1 sort bitvec 1\n2 constd 1 -1",
+    b"1 sort bitvec 1\n2 constd 1 x",
+    b"1 sort bitvec 1\n2 sort array 1 1",
+    b"1 sort bitvec 1\n2 zero 1\n3 not 1 -2",
+    b"1 sort bitvec 1\n2 zero 1\n3 inc 1 2",
+    b"1 sort bitvec 1\n2 zero 1\n3 or 1 2 2",
+    b"1 sort bitvec 1\n2 zero 1\n3 and 1 2",
+    b"1 sort bitvec 1\n2 zero 1\n3 and 1 2 3",
+    b"1 sort bitvec 1\n2 sort bitvec 2\n3 zero 2\n4 redor 2 3",
+    b"1 sort bitvec 1\n2 zero 1\n3 bad 2",
+    b"1 sort bitvec 1\n2 state 1",
+    b"1 sort bitvec 1\n2 zero 1\n3 state 1\n4 init 1 3 2",
+    b"1 sort bitvec 1\n2 zero 1\n3 state 1\n4 next 1 3 2",
+    b"1 sort bitvec 1\n2 zero 1\n3 state 1\n4 init 1 3 2\n5 next 1 3 2\n6 next 1 3 2",
+    b"1 sort bitvec 1\n2 input 1\n3 state 1\n4 init 1 3 2\n5 next 1 3 2",
+];
+
+#[test]
+fn unusual_spellings_are_read(rt: HostRuntime) {
+    let alloc = rt.alloc();
+    for text in &UNUSUAL {
+        assert!(rt; is_read(alloc, text));
+    }
+}
+
+#[test]
+fn texts_beside_the_form_are_refused(rt: HostRuntime) {
+    let alloc = rt.alloc();
+    for text in &REFUSED {
+        assert!(rt; !is_read(alloc, text));
+    }
+}
+
+#[test]
+fn texts_are_read(rt: HostRuntime) {
+    let alloc = rt.alloc();
+    assert!(rt; has_sizes(alloc, DEVICE, 9, 1, 1));
+    assert!(rt; has_sizes(alloc, b"", 0, 0, 0));
+    assert!(rt; has_sizes(alloc, b"; a comment\n\n  ; and blanks\n", 0, 0, 0));
+}
+
+#[test]
+fn numbers_and_keywords(rt: HostRuntime) {
+    let alloc = rt.alloc();
+    assert!(rt; is_refused(alloc, b"x sort bitvec 1", 1, Why::Number));
+    assert!(rt; is_refused(alloc, b"0 sort bitvec 1", 1, Why::Number));
+    assert!(rt; is_refused(alloc, b"\n2 sort bitvec 1\n2 zero 2\n", 3, Why::Order));
+    assert!(rt; is_refused(alloc, b"1 constraint 1", 1, Why::Constraint));
+    assert!(rt; is_refused(alloc, b"1 uaddo 1 1 1", 1, Why::Unsupported));
+    assert!(rt; is_refused(alloc, b"1 frob", 1, Why::Keyword));
+}
+
+#[test]
+fn operands_and_widths(rt: HostRuntime) {
+    let alloc = rt.alloc();
+    assert!(rt; is_refused(alloc, b"1 sort bits 1", 1, Why::Operand));
+    assert!(rt; is_refused(alloc, b"1 sort bitvec 1 a b", 1, Why::Operand));
+    assert!(rt; is_refused(alloc, b"1 sort bitvec 9", 1, Why::Sort));
+    assert!(rt; is_refused(alloc, b"1 sort bitvec 2\n2 constd 1 4", 2, Why::Digits));
+    assert!(rt;
+        is_refused(
+            alloc,
+            b"1 sort bitvec 2\n2 zero 1\n3 redor 1 2",
+            3,
+            Why::Width
+        )
+    );
+    assert!(rt; is_refused(alloc, b"1 sort bitvec 2\n2 state 1", 2, Why::Next));
+}
