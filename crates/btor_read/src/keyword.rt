@@ -1,152 +1,62 @@
 //! The words that begin a line's form.
+ghost use Rattle.std.specs.Prelude.{◌≡◌};
+ghost use Rattle.btor_read.specs.Grammar.{keyword};
+
+use knox_circuit::Why;
 use knox_words::{Op1, Op2};
 
-/// What a keyword says. `Overflow` is one of the eight operators for overflow.
+/// What a keyword of the first form says.
 #[derive(Clone, Copy, Debug, PartialEq, Eq)]
 pub enum Keyword {
     Sort,
-    Const,
-    Constd,
-    Consth,
     Zero,
-    One,
-    Ones,
+    Constd,
     Input,
     State,
     Init,
     Next,
+    Output,
     Un(Op1),
     Bin(Op2),
-    Slice,
-    Uext,
-    Sext,
     Ite,
-    Read,
-    Write,
-    Output,
-    Bad,
-    Fair,
-    Justice,
-    Constraint,
-    Overflow,
 }
 
-fn unary(word: &[u8]) -> Option<Op1> {
-    match word {
-        b"not" => Some(Op1::Not),
-        b"inc" => Some(Op1::Inc),
-        b"dec" => Some(Op1::Dec),
-        b"neg" => Some(Op1::Neg),
-        b"redand" => Some(Op1::Redand),
-        b"redor" => Some(Op1::Redor),
-        b"redxor" => Some(Op1::Redxor),
-        _ => None,
-    }
-}
-
-fn comparison(word: &[u8]) -> Option<Op2> {
-    match word {
-        b"eq" => Some(Op2::Eq),
-        b"neq" => Some(Op2::Neq),
-        b"ugt" => Some(Op2::Ugt),
-        b"ugte" => Some(Op2::Ugte),
-        b"ult" => Some(Op2::Ult),
-        b"ulte" => Some(Op2::Ulte),
-        b"sgt" => Some(Op2::Sgt),
-        b"sgte" => Some(Op2::Sgte),
-        b"slt" => Some(Op2::Slt),
-        b"slte" => Some(Op2::Slte),
-        _ => None,
-    }
-}
-
-fn bitwise(word: &[u8]) -> Option<Op2> {
-    match word {
-        b"iff" => Some(Op2::Iff),
-        b"implies" => Some(Op2::Implies),
-        b"and" => Some(Op2::And),
-        b"nand" => Some(Op2::Nand),
-        b"nor" => Some(Op2::Nor),
-        b"or" => Some(Op2::Or),
-        b"xnor" => Some(Op2::Xnor),
-        b"xor" => Some(Op2::Xor),
-        b"concat" => Some(Op2::Concat),
-        _ => None,
+/// The keyword that a word is, if it is one of the first form.
+pub fn keyword_of(word: &[u8]) -> Option<Keyword>
+    ensures { result ≡ keyword word.now }
+{
+    if word == b"sort".as_slice() {
+        Some(Keyword::Sort)
+    } else if word == b"zero".as_slice() {
+        Some(Keyword::Zero)
+    } else if word == b"constd".as_slice() {
+        Some(Keyword::Constd)
+    } else if word == b"input".as_slice() {
+        Some(Keyword::Input)
+    } else if word == b"state".as_slice() {
+        Some(Keyword::State)
+    } else if word == b"init".as_slice() {
+        Some(Keyword::Init)
+    } else if word == b"next".as_slice() {
+        Some(Keyword::Next)
+    } else if word == b"output".as_slice() {
+        Some(Keyword::Output)
+    } else if word == b"not".as_slice() {
+        Some(Keyword::Un(Op1::Not))
+    } else if word == b"redor".as_slice() {
+        Some(Keyword::Un(Op1::Redor))
+    } else if word == b"eq".as_slice() {
+        Some(Keyword::Bin(Op2::Eq))
+    } else if word == b"and".as_slice() {
+        Some(Keyword::Bin(Op2::And))
+    } else if word == b"ite".as_slice() {
+        Some(Keyword::Ite)
+    } else {
+        None
     }
 }
 
-fn shift(word: &[u8]) -> Option<Op2> {
-    match word {
-        b"sll" => Some(Op2::Sll),
-        b"srl" => Some(Op2::Srl),
-        b"sra" => Some(Op2::Sra),
-        b"rol" => Some(Op2::Rol),
-        b"ror" => Some(Op2::Ror),
-        _ => None,
-    }
-}
-
-fn arithmetic(word: &[u8]) -> Option<Op2> {
-    match word {
-        b"add" => Some(Op2::Add),
-        b"sub" => Some(Op2::Sub),
-        b"mul" => Some(Op2::Mul),
-        b"udiv" => Some(Op2::Udiv),
-        b"sdiv" => Some(Op2::Sdiv),
-        b"urem" => Some(Op2::Urem),
-        b"srem" => Some(Op2::Srem),
-        b"smod" => Some(Op2::Smod),
-        _ => None,
-    }
-}
-
-fn binary(word: &[u8]) -> Option<Op2> {
-    if let Some(o) = comparison(word) {
-        return Some(o);
-    }
-    if let Some(o) = bitwise(word) {
-        return Some(o);
-    }
-    if let Some(o) = shift(word) {
-        return Some(o);
-    }
-    arithmetic(word)
-}
-
-fn declaration(word: &[u8]) -> Option<Keyword> {
-    match word {
-        b"sort" => Some(Keyword::Sort),
-        b"const" => Some(Keyword::Const),
-        b"constd" => Some(Keyword::Constd),
-        b"consth" => Some(Keyword::Consth),
-        b"zero" => Some(Keyword::Zero),
-        b"one" => Some(Keyword::One),
-        b"ones" => Some(Keyword::Ones),
-        b"input" => Some(Keyword::Input),
-        b"state" => Some(Keyword::State),
-        b"init" => Some(Keyword::Init),
-        b"next" => Some(Keyword::Next),
-        _ => None,
-    }
-}
-
-fn other(word: &[u8]) -> Option<Keyword> {
-    match word {
-        b"slice" => Some(Keyword::Slice),
-        b"uext" => Some(Keyword::Uext),
-        b"sext" => Some(Keyword::Sext),
-        b"ite" => Some(Keyword::Ite),
-        b"read" => Some(Keyword::Read),
-        b"write" => Some(Keyword::Write),
-        b"output" => Some(Keyword::Output),
-        b"bad" => Some(Keyword::Bad),
-        b"fair" => Some(Keyword::Fair),
-        b"justice" => Some(Keyword::Justice),
-        b"constraint" => Some(Keyword::Constraint),
-        _ => None,
-    }
-}
-
+/// Whether a word is one of the eight operators for overflow.
 fn is_overflow(word: &[u8]) -> bool {
     match word {
         b"saddo" | b"uaddo" | b"sdivo" | b"udivo" => true,
@@ -155,23 +65,13 @@ fn is_overflow(word: &[u8]) -> bool {
     }
 }
 
-/// The keyword that a word is, if it is one.
-pub fn keyword_of(word: &[u8]) -> Option<Keyword> {
-    if let Some(k) = declaration(word) {
-        return Some(k);
-    }
-    if let Some(k) = other(word) {
-        return Some(k);
-    }
-    if let Some(o) = unary(word) {
-        return Some(Keyword::Un(o));
-    }
-    if let Some(o) = binary(word) {
-        return Some(Keyword::Bin(o));
-    }
-    if is_overflow(word) {
-        Some(Keyword::Overflow)
+/// Why a word is no keyword of the first form.
+pub fn refusal(word: &[u8]) -> Why {
+    if word == b"constraint".as_slice() {
+        Why::Constraint
+    } else if is_overflow(word) {
+        Why::Unsupported
     } else {
-        None
+        Why::Keyword
     }
 }

@@ -24,6 +24,10 @@ fn read(alloc: Global, text: &[u8]) -> Result<Circuit, BtorFault> {
     read_circuit(alloc, text)
 }
 
+fn is_read(alloc: Global, text: &[u8]) -> bool {
+    read(alloc, text).is_ok()
+}
+
 fn is_refused(alloc: Global, text: &[u8], line: u32, why: Why) -> bool {
     match read(alloc, text) {
         Ok(_) => false,
@@ -39,6 +43,84 @@ fn has_sizes(alloc: Global, text: &[u8], lines: usize, inputs: usize, cells: usi
                 && circuit.cells().len() == cells
         }
         Err(_) => false,
+    }
+}
+
+/// Texts of the form in unusual spelling.
+const UNUSUAL: [&[u8]; 10] = [
+    b"; a comment alone",
+    b"\n\n  \t\n",
+    b"1 sort bitvec 1\r\n2 zero 1\r\n",
+    b"0001 sort bitvec 08",
+    b"  1\tsort \t bitvec  3\t",
+    b"1 sort bitvec 1 a;b",
+    b"1 sort bitvec 1 ;a b c",
+    b"1 sort bitvec 1 x ; y",
+    b"7 sort bitvec 8\n4294967295 constd 7 000255 @7",
+    b"1 sort bitvec 1\n2 sort bitvec 1\n3 zero 1\n4 not 2 3",
+];
+
+/// Texts that are one edit away from the form.
+const REFUSED: [&[u8]; 44] = [
+    b"1",
+    b"sort bitvec 1",
+    b"x sort bitvec 1",
+    b"-1 sort bitvec 1",
+    b"+1 sort bitvec 1",
+    b"0 sort bitvec 1",
+    b"4294967296 sort bitvec 1",
+    b"1 sort",
+    b"1 sort bitvec",
+    b"1 sort bitvec x",
+    b"1 sort bitvec 0",
+    b"1 sort bitvec 9",
+    b"1 sort bitvec 1 a b",
+    b"1 sort bitvec 1;a b",
+    b"1 sort bitvec 1\r",
+    b"1 sort bitvec 1\r\r\n",
+    b"1 Sort bitvec 1",
+    b"1 sort bitvec\x0b1",
+    b"1 sort bitvec 1\n1 zero 1",
+    b"2 sort bitvec 1\n1 zero 2",
+    b"1 sort bitvec 1\n2 zero 2",
+    b"1 sort bitvec 1\n2 zero 3",
+    b"1 sort bitvec 1\n2 zero -1",
+    b"1 sort bitvec 1\n2 one 1",
+    b"1 sort bitvec 1\n2 ones 1",
+    b"1 sort bitvec 1\n2 const 1 1",
+    b"1 sort bitvec 1\n2 consth 1 1",
+    b"1 sort bitvec 1\n2 constd 1",
+    b"1 sort bitvec 1\n2 constd 1 2",
+    b"1 sort bitvec 1\n2 constd 1 -1",
+    b"1 sort bitvec 1\n2 constd 1 x",
+    b"1 sort bitvec 1\n2 sort array 1 1",
+    b"1 sort bitvec 1\n2 zero 1\n3 not 1 -2",
+    b"1 sort bitvec 1\n2 zero 1\n3 inc 1 2",
+    b"1 sort bitvec 1\n2 zero 1\n3 or 1 2 2",
+    b"1 sort bitvec 1\n2 zero 1\n3 and 1 2",
+    b"1 sort bitvec 1\n2 zero 1\n3 and 1 2 3",
+    b"1 sort bitvec 1\n2 sort bitvec 2\n3 zero 2\n4 redor 2 3",
+    b"1 sort bitvec 1\n2 zero 1\n3 bad 2",
+    b"1 sort bitvec 1\n2 state 1",
+    b"1 sort bitvec 1\n2 zero 1\n3 state 1\n4 init 1 3 2",
+    b"1 sort bitvec 1\n2 zero 1\n3 state 1\n4 next 1 3 2",
+    b"1 sort bitvec 1\n2 zero 1\n3 state 1\n4 init 1 3 2\n5 next 1 3 2\n6 next 1 3 2",
+    b"1 sort bitvec 1\n2 input 1\n3 state 1\n4 init 1 3 2\n5 next 1 3 2",
+];
+
+#[test]
+fn unusual_spellings_are_read(rt: HostRuntime) {
+    let alloc = rt.alloc();
+    for text in &UNUSUAL {
+        assert!(rt; is_read(alloc, text));
+    }
+}
+
+#[test]
+fn texts_beside_the_form_are_refused(rt: HostRuntime) {
+    let alloc = rt.alloc();
+    for text in &REFUSED {
+        assert!(rt; !is_read(alloc, text));
     }
 }
 

@@ -1,103 +1,68 @@
-//! Lines and tokens. Tokens are separated by spaces and tabs; one that begins with `;` begins a
-//! comment, which goes to the end of the line.
-ghost use Rattle.std.specs.Prelude.{◌≡◌, ◌≤◌, ◌<◌, ◌+◌, length};
+//! The tokens of a line up to a comment, which goes to the end of the line.
+ghost use Rattle.std.specs.Prelude.{◌≡◌, ◌==◌, ◌∷◌, [], length, IfSome, IfNone};
+ghost use Rattle.knox_text.specs.Lines.{begins_with, tokens};
+ghost use Rattle.btor_read.specs.Grammar.{uncommented};
 
-/// A line without its line feed, and the bytes behind it.
-#[derive(Clone, Copy)]
-pub struct Cut<'a> {
-    pub line: &'a [u8],
-    pub rest: &'a [u8],
-}
+use std::marker::Model;
 
-fn line_length(text: &[u8]) -> usize
-    ensures { result ≤ length text.now }
-{
-    for (i, byte) in text.iter().enumerate() {
-        if *byte == b'\n' {
-            return i;
-        }
-    }
-    text.len()
-}
-
-/// A line without a carriage return at its end.
-fn without_return(line: &[u8]) -> &[u8] {
-    match line {
-        [front @ .., b'\r'] => front,
-        _ => line,
-    }
-}
-
-/// Cuts the first line off. A carriage return directly before the line feed is no part of it.
-pub fn cut_line(text: &[u8]) -> Cut<'_>
-    requires { 0 < length text.now }
-    ensures { length result.rest.now < length text.now }
-{
-    let end = line_length(text);
-    if end < text.len() {
-        Cut {
-            line: without_return(&text[..end]),
-            rest: &text[end + 1..],
-        }
-    } else {
-        Cut {
-            line: text,
-            rest: &text[text.len()..],
-        }
-    }
-}
-
-fn is_blank(byte: u8) -> bool {
-    byte == b' ' || byte == b'\t'
-}
-
-fn blanks(text: &[u8]) -> usize
-    ensures { result ≤ length text.now }
-{
-    for (i, byte) in text.iter().enumerate() {
-        if !is_blank(*byte) {
-            return i;
-        }
-    }
-    text.len()
-}
-
-fn token_length(text: &[u8]) -> usize
-    ensures { result ≤ length text.now }
-{
-    for (i, byte) in text.iter().enumerate() {
-        if is_blank(*byte) {
-            return i;
-        }
-    }
-    text.len()
-}
-
-/// The tokens of a line that are left.
+/// The tokens of a line that are left. Contracts see them as a list.
 #[derive(Drop)]
 pub struct Tokens<'a> {
     rest: &'a [u8],
 }
 
+impl<'a> Model for Tokens<'a> {
+    ghost use Rattle.knox_text.specs.Lines.{tokens};
+    ghost use Rattle.btor_read.specs.Grammar.{Tokens, uncommented};
+
+    ghost Value = { Tokens };
+
+    ghost view = { λ t. uncommented (tokens t.rest.now) };
+}
+
+/// Whether a token begins a comment.
+fn begins_comment(token: &[u8]) -> bool
+    ensures { result ≡ begins_with 59 token.now }
+{
+    match token {
+        [] => false,
+        [byte, ..] => *byte == b';',
+    }
+}
+
 impl<'a> Tokens<'a> {
-    pub fn new(line: &'a [u8]) -> Tokens<'a> {
+    /// The tokens of a line.
+    pub fn new(line: &'a [u8]) -> Tokens<'a>
+        ensures { result ≡ uncommented (tokens line.now) }
+    {
         Tokens { rest: line }
     }
 
     /// The next token, or `None` at the end of the line or at a comment.
-    pub fn next(&mut self) -> Option<&'a [u8]> {
-        let rest = self.rest;
-        let start = &rest[blanks(rest)..];
-        match start {
-            [] | [b';', ..] => {
-                self.rest = &start[start.len()..];
-                None
-            }
-            _ => {
-                let end = token_length(start);
-                self.rest = &start[end..];
-                Some(&start[..end])
-            }
+    #[tactic(auto, using(crate::proofs::Rows::token_steps))]
+    pub fn next(&mut self) -> Option<&'a [u8]>
+        ensures some { IfSome result (λ t. self.old ≡ t.now ∷ self.new) }
+        ensures none { IfNone result (self.old ≡ []) }
+    {
+        let cut = match knox_text::cut_token(self.rest) {
+            None => return None,
+            Some(cut) => cut,
+        };
+        if begins_comment(cut.piece) {
+            return None;
+        }
+        self.rest = cut.rest;
+        Some(cut.piece)
+    }
+
+    /// Whether no token is left.
+    #[tactic(auto, using(crate::proofs::Rows::token_steps))]
+    pub fn is_empty(&self) -> bool
+        ensures { result ≡ (length self.now == 0) }
+    {
+        match knox_text::cut_token(self.rest) {
+            None => true,
+            Some(cut) => begins_comment(cut.piece),
         }
     }
 }

@@ -1,5 +1,5 @@
 //! The rules of the first form of circuits, line by line.
-ghost use Rattle.std.specs.Prelude.{◌≡◌, ◌≤◌, ◌&&◌, ◌^◌, length, min, slice_get, Some};
+ghost use Rattle.std.specs.Prelude.{◌≡◌, ◌≤◌, ◌&&◌, ◌^◌, length, min, nat_lt, slice_get, Some};
 ghost use Rattle.std.specs.Char.{digit_value};
 ghost use Rattle.std.specs.List.{list_all};
 ghost use Rattle.std.specs.Option.{option_copied};
@@ -282,6 +282,13 @@ fn last_number(lines: &[Line]) -> u32
     look::line_at(lines, lines.len() - 1).number
 }
 
+/// Whether a line's number is above the last one.
+fn is_above(lines: &[Line], line: &Line) -> bool
+    ensures { result ≡ nat_lt (last_number (earlier lines.now (length lines.now))) line.now.number }
+{
+    last_number(lines) < line.number
+}
+
 /// Whether a line is one of the form, after some lines.
 pub fn is_line(lines: &[Line], line: &Line) -> bool
     ensures { result ≡ is_line (earlier lines.now (length lines.now)) line.now }
@@ -292,10 +299,7 @@ pub fn is_line(lines: &[Line], line: &Line) -> bool
     if lines.len() >= 1000000 {
         return false;
     }
-    if last_number(lines) >= line.number {
-        return false;
-    }
-    is_shape(lines, &line.shape)
+    is_above(lines, line) && is_shape(lines, &line.shape)
 }
 
 /// The rule that a line outside the form is said to break.

@@ -1,8 +1,17 @@
-use Rattle.std.proofs.Common.{◌≤◌, ◌+◌, length}
+use Rattle.std.proofs.Common.{◌≡◌, ◌≤◌, ◌+◌, length, reverse, true}
+use Rattle.knox_text.specs.Lines.{lines}
+use Rattle.knox_circuit.specs.Form.{last_number}
+use Rattle.btor_read.specs.Grammar.{rows, formed, circuit_of}
+use Rattle.btor_read.specs.Growing.{with_rest}
 use Rattle.btor_read.proofs.reading.read_circuit.Given as goal
 
-abbrev pub invariant-loop-rest : goal.invariant-loop-rest
-invariant-loop-rest l = l.at + length l.rest ≤ 67108864
+abbrev pub invariant-loop-cut : goal.invariant-loop-cut
+invariant-loop-cut l = record {
+  room : l.at + length l.rest ≤ 67108864;
+  whole : with_rest l.draft.lines (rows (l.at + 1) (lines l.rest)) ≡ circuit_of l.bytes;
+  form : formed (reverse l.draft.lines) ≡ true;
+  last : l.last ≡ last_number (reverse l.draft.lines);
+}
 
-abbrev pub decreases-loop-rest : goal.decreases-loop-rest
-decreases-loop-rest l = length l.rest
+abbrev pub decreases-loop-cut : goal.decreases-loop-cut
+decreases-loop-cut l = length l.rest

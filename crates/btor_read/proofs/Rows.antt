@@ -1,0 +1,184 @@
+-- Tokens, numbers and text lines, step by step.
+use Rattle.std.proofs.Common.{◌≡◌, ℕ, ◌<◌, ◌≤◌, ◌==◌, ◌&&◌, nat_lt, nat_le, min, Bool, true, false, List, [], ◌∷◌, ◌++◌, length, reverse, Option, Some, None, refl, sym, ◌∙◌, ap, arith, eqb-true, lt-ltb, inl, inr, ◌⊎◌, if◌then◌else◌}
+use Rattle.std.proofs.lemmas.Bool.{le-leb, lt-leb, le-ltb}
+use Rattle.std.proofs.lemmas.List.{reverse-append, append-nil}
+use Rattle.std.specs.Str.Parse.{digits_value}
+use Rattle.knox_text.specs.Lines.{begins_with}
+use Rattle.knox_circuit.specs.declared.line.Shape.{Shape}
+use Rattle.knox_circuit.specs.declared.line.Line.{Line}
+use Rattle.knox_circuit.specs.Form.{all_digits, last_number, is_shape, is_line}
+use Rattle.btor_read.specs.Grammar.{◌>>=◌, Tokens, uncommented, number, number_at, shape_at, symbol_of, line_of, row, formed}
+use Rattle.btor_read.specs.Growing.{above, grown}
+
+bool_cases : (b : Bool) → (b ≡ true) ⊎ (b ≡ false)
+bool_cases true = inl refl
+bool_cases false = inr refl
+
+pub uncommented-more : (all : Tokens) (t : List ℕ) (ts : Tokens) → all ≡ t ∷ ts → begins_with 59 t ≡ false → uncommented all ≡ t ∷ uncommented ts
+uncommented-more [] t ts e h = cc
+uncommented-more (u ∷ us) t ts e h = let a : u ≡ t = cc in let b : us ≡ ts = cc in rw (a, b, h) refl
+
+pub uncommented-none : (all : Tokens) (t : List ℕ) (ts : Tokens) → all ≡ t ∷ ts → begins_with 59 t ≡ true → uncommented all ≡ []
+uncommented-none [] t ts e h = cc
+uncommented-none (u ∷ us) t ts e h = let a : u ≡ t = cc in rw (a, h) refl
+
+pub ruleset token_steps = (uncommented-more, uncommented-none)
+
+pub number-long : (t : List ℕ) → 4294967295 < min (digits_value 10 t) 4294967296 → number t ≡ None
+number-long t h =
+    let big : 4294967295 < digits_value 10 t = omega (arith, h) in
+    elim (bool_cases (nat_lt 0 (length t) && all_digits t)) [
+      | inl y ↦ rw (y, lt-leb (digits_value 10 t) 4294967295 big) refl
+      | inr n ↦ rw n refl
+    ]
+
+pub number-is : (t : List ℕ) (n : ℕ) → 0 < length t → all_digits t ≡ true → n ≡ min (digits_value 10 t) 4294967296 → n ≤ 4294967295 → number t ≡ Some n
+number-is t n a b c d =
+    let small : digits_value 10 t ≤ 4294967295 = omega (arith, c, d) in
+    let same : digits_value 10 t ≡ n = omega (arith, c, d) in
+    rw (lt-ltb 0 (length t) a, b, le-leb (digits_value 10 t) 4294967295 small) (ap (λ (k : ℕ). Some k) same)
+
+pub number-letters : (t : List ℕ) → all_digits t ≡ false → number t ≡ None
+number-letters t h = elim (bool_cases (nat_lt 0 (length t))) [
+  | inl y ↦ rw (y, h) refl
+  | inr n ↦ rw n refl
+]
+
+pub number-nothing : (t : List ℕ) → length t ≡ 0 → number t ≡ None
+number-nothing [] h = refl
+number-nothing (b ∷ t) h = absurd (omega (arith, h))
+
+pub ruleset number_steps = (number-long, number-is, number-letters, number-nothing)
+
+-- symbols
+
+not-none : (t : List ℕ) (ts : Tokens) → (length (t ∷ ts) == 0) ≡ true → ⊥
+not-none t ts h = let e : length (t ∷ ts) ≡ 0 = eqb-true _ _ h in omega (arith, e)
+
+pub symbol-one : (all : Tokens) (t : List ℕ) (ts : Tokens) (b : Bool) → all ≡ t ∷ ts → b ≡ (length ts == 0) → b ≡ true → symbol_of all ≡ Some t
+symbol-one [] t ts b e h q = cc
+symbol-one (u ∷ []) t ts b e h q = let is : u ≡ t = cc in ap (λ (z : List ℕ). Some z) is
+symbol-one (u ∷ v ∷ us) t [] b e h q = cc
+symbol-one (u ∷ v ∷ us) t (w ∷ ts) b e h q = absurd (not-none w ts (sym h ∙ q))
+
+pub symbol-many : (all : Tokens) (t : List ℕ) (ts : Tokens) (b : Bool) → all ≡ t ∷ ts → b ≡ (length ts == 0) → b ≡ false → symbol_of all ≡ None
+symbol-many [] t ts b e h q = cc
+symbol-many (u ∷ []) t [] b e h q = cc
+symbol-many (u ∷ []) t (w ∷ ts) b e h q = cc
+symbol-many (u ∷ v ∷ us) t ts b e h q = refl
+
+pub ruleset symbol_steps = (symbol-one, symbol-many)
+
+-- lines with numbers above the last
+
+pub above-from : (at last : ℕ) (all : Tokens) (n : ℕ) (ts us : Tokens) (s : Shape) (symbol : List ℕ) → number_at all ≡ Some (n, ts) → last < n → shape_at ts ≡ Some (s, us) → symbol_of us ≡ Some symbol → above last (line_of at all) ≡ Some (record { number = n; at = at; shape = s; symbol = symbol })
+above-from at last all n ts us s symbol a b c d = rw a (rw c (rw d (rw (lt-ltb last n b) refl)))
+
+pub above-number : (at last : ℕ) (all : Tokens) → number_at all ≡ None → above last (line_of at all) ≡ None
+above-number at last all a = rw a refl
+
+pub above-low : (at last : ℕ) (all : Tokens) (n : ℕ) (ts : Tokens) → number_at all ≡ Some (n, ts) → n ≤ last → above last (line_of at all) ≡ None
+above-low at last all n ts a b = rw a (by_shape (shape_at ts)) where
+  by_symbol : (s : Shape) (symbol : Option (List ℕ)) → above last (symbol >>= λ symbol. Some (record { number = n; at = at; shape = s; symbol = symbol })) ≡ None
+  by_symbol s None = refl
+  by_symbol s (Some symbol) = rw (le-ltb last n b) refl
+
+  by_shape : (o : Option (Shape × Tokens)) → above last (o >>= λ s. symbol_of s.1 >>= λ symbol. Some (record { number = n; at = at; shape = s.0; symbol = symbol })) ≡ None
+  by_shape None = refl
+  by_shape (Some s) = by_symbol s.0 (symbol_of s.1)
+
+pub above-shape : (at last : ℕ) (all : Tokens) (n : ℕ) (ts : Tokens) → number_at all ≡ Some (n, ts) → shape_at ts ≡ None → above last (line_of at all) ≡ None
+above-shape at last all n ts a c = rw a (rw c refl)
+
+pub above-symbol : (at last : ℕ) (all : Tokens) (n : ℕ) (ts us : Tokens) (s : Shape) → number_at all ≡ Some (n, ts) → shape_at ts ≡ Some (s, us) → symbol_of us ≡ None → above last (line_of at all) ≡ None
+above-symbol at last all n ts us s a c d = rw a (rw c (rw d refl))
+
+pub ruleset above_steps = (above-from, above-number, above-low, above-shape, above-symbol)
+
+-- ---- lines so far with those of one text line
+
+turned : (before : List Line) (l : Line) → reverse (before ++ l ∷ []) ≡ l ∷ reverse before
+turned before l = reverse-append before (l ∷ [])
+
+row-line : (at : ℕ) (ts : Tokens) (b : Bool) → b ≡ (length ts == 0) → b ≡ false → row at ts ≡ (line_of at ts >>= λ l. Some (l ∷ []))
+row-line at [] b e h = cc
+row-line at (t ∷ ts) b e h = refl
+
+both-true : (a b : Bool) → a ≡ true → b ≡ true → (a && b) ≡ true
+both-true true b e f = f
+both-true false b e f = cc
+
+-- one line is among the lines so far only where it is of the form
+grown-one : (before : List Line) (l : Line) → grown before (Some (l ∷ [])) ≡ (if is_line (reverse before) l && formed (reverse before) then Some (before ++ l ∷ []) else None)
+grown-one before l = ap (λ (ls : List Line). if formed ls then Some (before ++ l ∷ []) else None) (turned before l)
+
+refused-one : (before : List Line) (l : Line) → is_line (reverse before) l ≡ false → grown before (Some (l ∷ [])) ≡ None
+refused-one before l h = grown-one before l ∙ ap (λ (b : Bool). if b && formed (reverse before) then Some (before ++ l ∷ []) else None) h
+
+line-low : (before : List Line) (l : Line) → nat_lt (last_number before) l.number ≡ false → is_line before l ≡ false
+line-low before l h = ap (λ (b : Bool). nat_le l.at 1000000 && nat_lt (length before) 1000000 && b && is_shape before l.shape) h ∙ rest (nat_le l.at 1000000 && nat_lt (length before) 1000000) where
+  rest : (b : Bool) → (b && false && is_shape before l.shape) ≡ false
+  rest true = refl
+  rest false = refl
+
+line-late : (before : List Line) (l : Line) → nat_le l.at 1000000 ≡ false → is_line before l ≡ false
+line-late before l h = ap (λ (b : Bool). b && nat_lt (length before) 1000000 && nat_lt (last_number before) l.number && is_shape before l.shape) h
+
+-- the line of a text line has that line's number
+line-place : (at : ℕ) (ts : Tokens) (l : Line) → line_of at ts ≡ Some l → l.at ≡ at
+line-place at ts l e = by_number (number_at ts) e where
+  by_symbol : (n : ℕ) (s : Shape) (o : Option (List ℕ)) → (o >>= λ symbol. Some (record { number = n; at = at; shape = s; symbol = symbol })) ≡ Some l → l.at ≡ at
+  by_symbol n s None e = cc
+  by_symbol n s (Some symbol) e = let is : record { number = n; at = at; shape = s; symbol = symbol } ≡ l = cc in ap (λ (x : Line). x.at) (sym is)
+
+  by_shape : (n : ℕ) (o : Option (Shape × Tokens)) → (o >>= λ s. symbol_of s.1 >>= λ symbol. Some (record { number = n; at = at; shape = s.0; symbol = symbol })) ≡ Some l → l.at ≡ at
+  by_shape n None e = cc
+  by_shape n (Some s) e = by_symbol n s.0 (symbol_of s.1) e
+
+  by_number : (o : Option (ℕ × Tokens)) → (o >>= λ n. shape_at n.1 >>= λ s. symbol_of s.1 >>= λ symbol. Some (record { number = n.0; at = at; shape = s.0; symbol = symbol })) ≡ Some l → l.at ≡ at
+  by_number None e = cc
+  by_number (Some n) e = by_shape n.0 (shape_at n.1) e
+
+pub grown-nothing : (at : ℕ) (before : List Line) (ts : Tokens) (b : Bool) → b ≡ (length ts == 0) → b ≡ true → formed (reverse before) ≡ true → grown before (row at ts) ≡ Some before
+grown-nothing at before [] b e h f = rw (append-nil before, f) refl
+grown-nothing at before (t ∷ ts) b e h f = absurd (not-none t ts (sym e ∙ h))
+
+pub grown-late : (at : ℕ) (before : List Line) (ts : Tokens) (b : Bool) → b ≡ (length ts == 0) → b ≡ false → 1000000 < at → grown before (row at ts) ≡ None
+grown-late at before ts b e h late = ap (grown before) (row-line at ts b e h) ∙ by_line (line_of at ts) refl where
+  by_line : (o : Option Line) → line_of at ts ≡ o → grown before (o >>= λ l. Some (l ∷ [])) ≡ None
+  by_line None q = refl
+  by_line (Some l) q = refused-one before l (line-late (reverse before) l (ap (λ (k : ℕ). nat_le k 1000000) (line-place at ts l q) ∙ lt-leb at 1000000 late))
+
+pub grown-low : (at last : ℕ) (before : List Line) (ts : Tokens) (b : Bool) → b ≡ (length ts == 0) → b ≡ false → last ≡ last_number (reverse before) → above last (line_of at ts) ≡ None → grown before (row at ts) ≡ None
+grown-low at last before ts b e h is a = ap (grown before) (row-line at ts b e h) ∙ by_line (line_of at ts) a where
+  by_test : (l : Line) (t : Bool) → nat_lt last l.number ≡ t → (if t then Some l else None) ≡ None → grown before (Some (l ∷ [])) ≡ None
+  by_test l true q a = cc
+  by_test l false q a = refused-one before l (line-low (reverse before) l (ap (λ (k : ℕ). nat_lt k l.number) (sym is) ∙ q))
+
+  by_line : (o : Option Line) → above last o ≡ None → grown before (o >>= λ l. Some (l ∷ [])) ≡ None
+  by_line None a = refl
+  by_line (Some l) a = by_test l (nat_lt last l.number) refl a
+
+above-line : (last : ℕ) (o : Option Line) (l : Line) → above last o ≡ Some l → o ≡ Some l
+above-line last None l a = cc
+above-line last (Some x) l a = by_test (nat_lt last x.number) a where
+  by_test : (t : Bool) → (if t then Some x else None) ≡ Some l → Some x ≡ Some l
+  by_test true a = a
+  by_test false a = cc
+
+pub grown-refused : (at last : ℕ) (before : List Line) (ts : Tokens) (b : Bool) (l : Line) → b ≡ (length ts == 0) → b ≡ false → above last (line_of at ts) ≡ Some l → is_line (reverse before) l ≡ false → grown before (row at ts) ≡ None
+grown-refused at last before ts b l e h a f =
+    ap (grown before) (row-line at ts b e h ∙ ap (λ (o : Option Line). o >>= λ l. Some (l ∷ [])) (above-line last (line_of at ts) l a)) ∙ refused-one before l f
+
+pub grown-more : (at last : ℕ) (before new : List Line) (ts : Tokens) (b : Bool) (l : Line) → b ≡ (length ts == 0) → b ≡ false → above last (line_of at ts) ≡ Some l → is_line (reverse before) l ≡ true → formed (reverse before) ≡ true → new ≡ before ++ l ∷ [] → grown before (row at ts) ≡ Some new
+grown-more at last before new ts b l e h a f g is =
+    ap (grown before) (row-line at ts b e h ∙ ap (λ (o : Option Line). o >>= λ l. Some (l ∷ [])) (above-line last (line_of at ts) l a))
+    ∙ (grown-one before l ∙ (ap (λ (t : Bool). if t then Some (before ++ l ∷ []) else None) (both-true _ _ f g) ∙ ap (λ (ls : List Line). Some ls) (sym is)))
+
+pub formed-more : (before new : List Line) (l : Line) → is_line (reverse before) l ≡ true → formed (reverse before) ≡ true → new ≡ before ++ l ∷ [] → formed (reverse new) ≡ true
+formed-more before new l f g is = ap (λ (ls : List Line). formed (reverse ls)) is ∙ (ap formed (turned before l) ∙ rw (f, g) refl)
+
+pub last-more : (before new : List Line) (l : Line) → new ≡ before ++ l ∷ [] → l.number ≡ last_number (reverse new)
+last-more before new l is = sym (ap (λ (ls : List Line). last_number (reverse ls)) is ∙ ap last_number (turned before l))
+
+pub ruleset grown_steps = (grown-nothing, grown-late, grown-low, grown-refused, grown-more, formed-more, last-more)
