@@ -1,0 +1,4 @@
+pub mod WordLemmas
+pub mod DimacsLemmas
+pub mod LratLemmas
+pub mod Digits

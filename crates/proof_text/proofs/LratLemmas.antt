@@ -1,0 +1,80 @@
+-- One number after another, and one line after another.
+use Rattle.std.proofs.Common.{◌≡◌, ℕ, ◌+◌, List, [], ◌∷◌, ◌++◌, refl, sym, ◌∙◌, ap, subst, inl, inr, append_assoc, Option, Some, None, Result, Ok, Err, ◌⊎◌}
+use Rattle.std.specs.Prelude.{option_to_list}
+use Rattle.std.proofs.lemmas.List.{append-nil}
+use Rattle.knox_text.specs.Lines.{lines}
+use Rattle.proof_text.specs.declared.fault.ProofFault.{ProofFault}
+use Rattle.proof_text.specs.declared.fault.ProofFault.TheVariants.{Shape, Memory}
+use Rattle.proof_text.specs.declared.proof_line.ProofLine.{ProofLine}
+use Rattle.proof_text.specs.Words.{Word, word, words, place_of}
+use Rattle.proof_text.specs.Results.{and_then, Answers}
+use Rattle.proof_text.specs.Lrat.{number_then, numbers, line_of, lines_of}
+
+-- ---- numbers: those that were read, before what is left gives
+
+abbrev pub front : {A : Type 0} → List A → Result (List A × List Word) ProofFault → Result (List A × List Word) ProofFault
+front xs r = and_then r (λ p. Ok (xs ++ p.0, p.1))
+
+pub front-none : {A : Type 0} (r : Result (List A × List Word) ProofFault) → r ≡ front [] r
+front-none (Ok p) = refl
+front-none (Err f) = refl
+
+front-push : {A : Type 0} (xs : List A) (x : A) (r : Result (List A × List Word) ProofFault) → front xs (and_then r (λ p. Ok (x ∷ p.0, p.1))) ≡ front (xs ++ x ∷ []) r
+front-push xs x (Ok p) = ap (λ l. Ok (l, p.1)) (sym (append_assoc xs (x ∷ []) p.0))
+front-push xs x (Err f) = refl
+
+step : {A : Type 0} (read : List ℕ → Option (Option A)) (n width : ℕ) (xs : List A) (left : ℕ) (bytes line rest : List ℕ) (o : Option (Option A)) → words line ≡ word left bytes ∷ words rest → o ≡ read bytes → front xs (numbers read n width (words line)) ≡ front xs (number_then o (place_of n width left) (words rest) (numbers read n width (words rest)))
+step read n width xs left bytes line rest o w h =
+    ap (λ ws. front xs (numbers read n width ws)) w
+    ∙ ap (λ k. front xs (number_then k (place_of n width left) (words rest) (numbers read n width (words rest)))) (sym h)
+
+pub numbers-more : {A : Type 0} (read : List ℕ → Option (Option A)) (n width : ℕ) (xs : List A) (left : ℕ) (bytes line rest : List ℕ) (x : A) → words line ≡ word left bytes ∷ words rest → Some (Some x) ≡ read bytes → front xs (numbers read n width (words line)) ≡ front (xs ++ x ∷ []) (numbers read n width (words rest))
+numbers-more read n width xs left bytes line rest x w h =
+    step read n width xs left bytes line rest (Some (Some x)) w h ∙ front-push xs x (numbers read n width (words rest))
+
+pub numbers-end : {A : Type 0} (read : List ℕ → Option (Option A)) (n width : ℕ) (xs : List A) (left : ℕ) (bytes line rest : List ℕ) → words line ≡ word left bytes ∷ words rest → Some None ≡ read bytes → front xs (numbers read n width (words line)) ≡ Ok (xs, words rest)
+numbers-end read n width xs left bytes line rest w h =
+    step read n width xs left bytes line rest (Some None) w h ∙ ap (λ l. Ok (l, words rest)) (append-nil xs)
+
+pub numbers-refused : {A : Type 0} (read : List ℕ → Option (Option A)) (n width : ℕ) (xs : List A) (left : ℕ) (bytes line rest : List ℕ) → words line ≡ word left bytes ∷ words rest → None ≡ read bytes → front xs (numbers read n width (words line)) ≡ Err (Shape (place_of n width left))
+numbers-refused read n width xs left bytes line rest w h = step read n width xs left bytes line rest None w h
+
+pub numbers-missing : {A : Type 0} (read : List ℕ → Option (Option A)) (n width : ℕ) (xs : List A) (ws : List Word) → ws ≡ [] → front xs (numbers read n width ws) ≡ Err (Shape (place_of n width 0))
+numbers-missing read n width xs [] e = refl
+numbers-missing read n width xs (w ∷ ws) e = cc
+
+-- ---- lines
+
+abbrev pub after : List ProofLine → Result (List ProofLine) ProofFault → Result (List ProofLine) ProofFault
+after xs r = and_then r (λ es. Ok (xs ++ es))
+
+pub after-none : (r : Result (List ProofLine) ProofFault) → r ≡ after [] r
+after-none (Ok es) = refl
+after-none (Err f) = refl
+
+after-push : (xs more : List ProofLine) (r : Result (List ProofLine) ProofFault) → after xs (and_then r (λ es. Ok (more ++ es))) ≡ after (xs ++ more) r
+after-push xs more (Ok es) = ap (λ l. Ok l) (sym (append_assoc xs more es))
+after-push xs more (Err f) = refl
+
+answered : {A : Type 0} (r want : Result A ProofFault) (x : A) → Answers r want → r ≡ Ok x → want ≡ Ok x
+answered r want x (inl m) e = cc
+answered r want x (inr w) e = sym w ∙ e
+
+pub lines-more : (n : ℕ) (xs : List ProofLine) (line text rest : List ℕ) (r : Result (Option ProofLine) ProofFault) (e : Option ProofLine) → lines text ≡ line ∷ lines rest → Answers r (line_of n line) → r ≡ Ok e → after xs (lines_of n (lines text)) ≡ after (xs ++ option_to_list e) (lines_of (n + 1) (lines rest))
+lines-more n xs line text rest r e w a k =
+    ap (λ ls. after xs (lines_of n ls)) w
+    ∙ ap (λ o. after xs (and_then o (λ z. and_then (lines_of (n + 1) (lines rest)) (λ es. Ok (option_to_list z ++ es))))) (answered r (line_of n line) e a k)
+    ∙ after-push xs (option_to_list e) (lines_of (n + 1) (lines rest))
+
+refused : {A B : Type 0} (r : Result A ProofFault) (f : ProofFault) (want : Result A ProofFault) (rest : A → Result B ProofFault) → Answers r want → r ≡ Err f → (f ≡ Memory) ⊎ (and_then want rest ≡ Err f)
+refused r f want rest (inl m) e = let k : f ≡ Memory = cc in inl k
+refused r f want rest (inr w) e = inr (ap (λ o. and_then o rest) (sym w ∙ e))
+
+refused-after : (xs : List ProofLine) (f : ProofFault) (want : Result (List ProofLine) ProofFault) → (f ≡ Memory) ⊎ (want ≡ Err f) → Answers (Err f) (after xs want)
+refused-after xs f want (inl m) = inl (ap (λ k. Err k) m)
+refused-after xs f want (inr w) = inr (sym (ap (after xs) w))
+
+pub lines-refused : (n : ℕ) (xs : List ProofLine) (line text rest : List ℕ) (r : Result (Option ProofLine) ProofFault) (f : ProofFault) → lines text ≡ line ∷ lines rest → Answers r (line_of n line) → r ≡ Err f → Answers {A = List ProofLine} (Err f) (after xs (lines_of n (lines text)))
+lines-refused n xs line text rest r f w a k =
+    subst (λ ls. Answers {A = List ProofLine} (Err f) (after xs (lines_of n ls))) (sym w)
+    (refused-after xs f (and_then (line_of n line) (λ z. and_then (lines_of (n + 1) (lines rest)) (λ es. Ok (option_to_list z ++ es)))) (refused r f (line_of n line) (λ z. and_then (lines_of (n + 1) (lines rest)) (λ es. Ok (option_to_list z ++ es))) a k))

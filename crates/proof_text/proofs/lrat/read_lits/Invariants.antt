@@ -1,0 +1,13 @@
+use Rattle.std.proofs.Common.{◌≡◌, length}
+use Rattle.proof_text.specs.Words.{words}
+use Rattle.proof_text.specs.Lrat.{numbers, literal_at}
+use Rattle.proof_text.proofs.LratLemmas.{front}
+use Rattle.proof_text.proofs.lrat.read_lits.Given as goal
+
+-- what was read, and what is left, give what all gives
+abbrev pub invariant-loop-cut : goal.invariant-loop-cut
+invariant-loop-cut l =
+    numbers literal_at l.line.number l.line.width (words l.text) ≡ front l.lits (numbers literal_at l.line.number l.line.width (words l.rest))
+
+abbrev pub decreases-loop-cut : goal.decreases-loop-cut
+decreases-loop-cut l = length l.rest

@@ -1,0 +1,5 @@
+pub mod Words
+pub mod Results
+pub mod Dimacs
+pub mod Lrat
+pub mod Printing

@@ -1,0 +1,290 @@
+//! Proofs from the bytes of a text.
+ghost use Rattle.std.specs.Prelude.{◌≡◌, ◌≤◌, ◌<◌, ◌+◌, ◌^◌, ◌⊎◌, [], length, not, IfOk, IfErr, Ok, Err, option_to_list, OnOk, IfSome, IfNone, false, ◌++◌};
+ghost use Rattle.knox_cnf.specs.Literals.{signed as signed_is};
+ghost use Rattle.knox_text.specs.Lines.{lines};
+ghost use Rattle.proof_text.specs.declared.fault.ProofFault.TheVariants.{Memory};
+ghost use Rattle.proof_text.specs.Words.{words, place_of};
+ghost use Rattle.proof_text.specs.Results.{Answers};
+ghost use Rattle.proof_text.specs.Lrat.{literal_at as literal_is, hint_at as hint_is, id_at as id_is, numbers, ended, addition as addition_is, deletion as deletion_is, is_d as is_d_word, after_id as after_id_is, entry as entry_is, line_of, lrat_of, begins_with_d, has_d};
+
+use crate::fault::ProofFault;
+use crate::number::{read_number, unsigned};
+use crate::place::{Line, place};
+use crate::proof_line::ProofLine;
+use crate::word::{begins_with_c, cut_word};
+use knox_cnf::Lit;
+use knox_text::{Place, cut_line};
+use sqlite_items::Items;
+use std::alloc::Global;
+
+/// The first magnitude that no literal and no hint above 0 has.
+const TOO_GREAT: u128 = 1 << 63;
+
+/// The first id that is too great.
+const NO_ID: u128 = 1 << 64;
+
+fn signed(negative: bool, magnitude: u64) -> i64
+    requires { magnitude < 2 ^ 63 }
+    ensures { result ≡ signed_is magnitude (not negative) }
+{
+    let value = magnitude as i64;
+    if negative { -value } else { value }
+}
+
+/// A literal in a list that a 0 ends: `Some(None)` at the 0.
+fn literal_at(word: &[u8]) -> Option<Option<Lit>>
+    ensures { result ≡ literal_is word.now }
+{
+    let number = read_number(word)?;
+    if number.magnitude == 0 {
+        return if number.negative { None } else { Some(None) };
+    }
+    if number.magnitude >= TOO_GREAT {
+        return None;
+    }
+    match Lit::new(signed(number.negative, number.magnitude as u64)) {
+        None => None,
+        Some(lit) => Some(Some(lit)),
+    }
+}
+
+fn hint_at(word: &[u8]) -> Option<Option<i64>>
+    ensures { result ≡ hint_is word.now }
+{
+    let number = read_number(word)?;
+    if number.magnitude == 0 {
+        return if number.negative { None } else { Some(None) };
+    }
+    if number.magnitude < TOO_GREAT {
+        return Some(Some(signed(number.negative, number.magnitude as u64)));
+    }
+    if number.negative && number.magnitude == TOO_GREAT {
+        return Some(Some(i64::MIN));
+    }
+    None
+}
+
+fn id_at(word: &[u8]) -> Option<Option<u64>>
+    ensures { result ≡ id_is word.now }
+{
+    let number = unsigned(word)?;
+    if number == 0 {
+        return Some(None);
+    }
+    if number < NO_ID {
+        Some(Some(number as u64))
+    } else {
+        None
+    }
+}
+
+/// Reads literals up to the 0, and answers the line behind it.
+fn read_lits<'a>(line: Line, text: &'a [u8], lits: &mut Items<Lit>) -> Result<&'a [u8], ProofFault>
+    requires width { line.width ≤ 67108864 }
+    requires none { lits.old ≡ [] }
+    ensures ok { IfOk result (λ rest. numbers literal_is line.number line.width (words text.now) ≡ Ok (lits.new, words rest.now)) }
+    ensures err { IfErr result (λ f. (f ≡ Memory) ⊎ (numbers literal_is line.number line.width (words text.now) ≡ Err f)) }
+{
+    let mut rest = text;
+    while let Some(cut) = cut_word(rest) {
+        let at = place(line, cut.left);
+        match literal_at(cut.word) {
+            None => return Err(ProofFault::Shape(at)),
+            Some(entry) => match entry {
+                None => return Ok(cut.rest),
+                Some(lit) => lits.push(lit)?,
+            },
+        }
+        rest = cut.rest;
+    }
+    Err(ProofFault::Shape(place(line, 0)))
+}
+
+/// Reads hints up to the 0, and answers the line behind it.
+fn read_hints<'a>(line: Line, text: &'a [u8], hints: &mut Items<i64>) -> Result<&'a [u8], ProofFault>
+    requires width { line.width ≤ 67108864 }
+    requires none { hints.old ≡ [] }
+    ensures ok { IfOk result (λ rest. numbers hint_is line.number line.width (words text.now) ≡ Ok (hints.new, words rest.now)) }
+    ensures err { IfErr result (λ f. (f ≡ Memory) ⊎ (numbers hint_is line.number line.width (words text.now) ≡ Err f)) }
+{
+    let mut rest = text;
+    while let Some(cut) = cut_word(rest) {
+        let at = place(line, cut.left);
+        match hint_at(cut.word) {
+            None => return Err(ProofFault::Shape(at)),
+            Some(entry) => match entry {
+                None => return Ok(cut.rest),
+                Some(hint) => hints.push(hint)?,
+            },
+        }
+        rest = cut.rest;
+    }
+    Err(ProofFault::Shape(place(line, 0)))
+}
+
+/// Reads ids up to the 0, and answers the line behind it.
+fn read_ids<'a>(line: Line, text: &'a [u8], ids: &mut Items<u64>) -> Result<&'a [u8], ProofFault>
+    requires width { line.width ≤ 67108864 }
+    requires none { ids.old ≡ [] }
+    ensures ok { IfOk result (λ rest. numbers id_is line.number line.width (words text.now) ≡ Ok (ids.new, words rest.now)) }
+    ensures err { IfErr result (λ f. (f ≡ Memory) ⊎ (numbers id_is line.number line.width (words text.now) ≡ Err f)) }
+{
+    let mut rest = text;
+    while let Some(cut) = cut_word(rest) {
+        let at = place(line, cut.left);
+        match id_at(cut.word) {
+            None => return Err(ProofFault::Shape(at)),
+            Some(entry) => match entry {
+                None => return Ok(cut.rest),
+                Some(id) => ids.push(id)?,
+            },
+        }
+        rest = cut.rest;
+    }
+    Err(ProofFault::Shape(place(line, 0)))
+}
+
+/// A line of the proof, if no word is left.
+fn end_line(line: Line, rest: &[u8], made: ProofLine) -> Result<Option<ProofLine>, ProofFault>
+    requires { line.width ≤ 67108864 }
+    ensures { Answers result (ended line.number line.width (words rest.now) made) }
+{
+    match cut_word(rest) {
+        None => Ok(Some(made)),
+        Some(cut) => Err(ProofFault::Shape(place(line, cut.left))),
+    }
+}
+
+fn addition(
+    alloc: Global,
+    line: Line,
+    id: u64,
+    text: &[u8],
+) -> Result<Option<ProofLine>, ProofFault>
+    requires { line.width ≤ 67108864 }
+    ensures { Answers result (addition_is line.number line.width id (words text.now)) }
+{
+    let mut lits = Items::new(alloc);
+    let mut hints = Items::new(alloc);
+    let behind_lits = read_lits(line, text, &mut lits)?;
+    let behind_hints = read_hints(line, behind_lits, &mut hints)?;
+    end_line(line, behind_hints, ProofLine::Add(line.number, id, lits, hints))
+}
+
+fn deletion(alloc: Global, line: Line, text: &[u8]) -> Result<Option<ProofLine>, ProofFault>
+    requires { line.width ≤ 67108864 }
+    ensures { Answers result (deletion_is line.number line.width (words text.now)) }
+{
+    let mut ids = Items::new(alloc);
+    let behind_ids = read_ids(line, text, &mut ids)?;
+    end_line(line, behind_ids, ProofLine::Delete(line.number, ids))
+}
+
+/// Whether the next word is `d`, and the line behind it.
+fn behind_d(text: &[u8]) -> Option<&[u8]>
+    ensures some { IfSome result (λ rest. has_d (words text.now) (words rest.now)) }
+    ensures none { IfNone result (begins_with_d (words text.now) ≡ false) }
+{
+    match cut_word(text) {
+        None => None,
+        Some(cut) => {
+            if is_d(cut.word) {
+                Some(cut.rest)
+            } else {
+                None
+            }
+        }
+    }
+}
+
+fn is_d(word: &[u8]) -> bool
+    ensures { result ≡ is_d_word word.now }
+{
+    match word {
+        [byte] => *byte == b'd',
+        _ => false,
+    }
+}
+
+fn after_id(
+    alloc: Global,
+    line: Line,
+    at: Place,
+    id: u128,
+    text: &[u8],
+) -> Result<Option<ProofLine>, ProofFault>
+    requires { line.width ≤ 67108864 }
+    ensures { Answers result (after_id_is line.number line.width at id (words text.now)) }
+{
+    match behind_d(text) {
+        Some(rest) => deletion(alloc, line, rest),
+        None => {
+            if id < NO_ID {
+                addition(alloc, line, id as u64, text)
+            } else {
+                Err(ProofFault::Shape(at))
+            }
+        }
+    }
+}
+
+fn entry(alloc: Global, line: Line, text: &[u8]) -> Result<Option<ProofLine>, ProofFault>
+    requires { line.width ≤ 67108864 }
+    ensures { Answers result (entry_is line.number line.width (words text.now)) }
+{
+    match cut_word(text) {
+        None => Ok(None),
+        Some(cut) => {
+            let at = place(line, cut.left);
+            match unsigned(cut.word) {
+                None => Err(ProofFault::Shape(at)),
+                Some(id) => after_id(alloc, line, at, id, cut.rest),
+            }
+        }
+    }
+}
+
+fn read_line(
+    alloc: Global,
+    number: u32,
+    text: &[u8],
+) -> Result<Option<ProofLine>, ProofFault>
+    requires { length text.now ≤ 67108864 }
+    ensures { Answers result (line_of number text.now) }
+{
+    if begins_with_c(text) {
+        return Ok(None);
+    }
+    let width = text.len();
+    entry(alloc, Line { number, width }, text)
+}
+
+fn push_some(lines: &mut Items<ProofLine>, line: Option<ProofLine>) -> Result<(), ProofFault>
+    ensures ok { OnOk result (lines.new ≡ lines.old ++ option_to_list line) }
+    ensures err { IfErr result (λ f. f ≡ Memory) }
+{
+    match line {
+        None => {}
+        Some(line) => lines.push(line)?,
+    }
+    Ok(())
+}
+
+/// The lines that an LRAT text of at most 64 MiB means, or its first fault in reading order.
+pub fn read_lrat(alloc: Global, bytes: &[u8]) -> Result<Items<ProofLine>, ProofFault>
+    requires { length bytes.now ≤ 67108864 }
+    ensures { Answers result (lrat_of bytes.now) }
+{
+    let mut lines = Items::new(alloc);
+    let mut number = 1;
+    let mut rest = bytes;
+    while let Some(cut) = cut_line(rest) {
+        match read_line(alloc, number, cut.piece) {
+            Err(fault) => return Err(fault),
+            Ok(line) => push_some(&mut lines, line)?,
+        }
+        number += 1;
+        rest = cut.rest;
+    }
+    Ok(lines)
+}
