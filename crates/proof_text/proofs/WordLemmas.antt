@@ -4,7 +4,7 @@ use Rattle.std.proofs.lemmas.Grind.{common_steps}
 use Rattle.std.proofs.lemmas.Bool.{cases_Bool}
 use Rattle.knox_text.specs.Lines.{is_blank, lines, begun, begins_with}
 use Rattle.knox_text.specs.Pieces.{skipped, token_length}
-use Rattle.proof_text.specs.Words.{Word, word, words, longer}
+use Rattle.proof_text.specs.Words.{word, words, longer}
 
 -- ---- the length of a word, byte after byte
 

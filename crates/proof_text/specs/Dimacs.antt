@@ -3,7 +3,7 @@
 -- begins with `c` is left out where no clause is open.
 -- The project's own: V and C are at most 10,000,000, and a fault stands at the word that breaks a rule, or
 -- at the end of the text where a word is missing.
-use Rattle.std.specs.Prelude.{◌≡◌, ◌⊎◌, ℕ, suc, ◌+◌, ◌==◌, ◌&&◌, nat_le, not, Bool, true, false, if◌then◌else◌, cond, List, [], ◌∷◌, ◌++◌, length, Option, Some, None, Result, Ok, Err}
+use Rattle.std.specs.Prelude.{◌≡◌, ◌⊎◌, ℕ, ◌+◌, ◌==◌, ◌&&◌, nat_le, not, Bool, true, false, if◌then◌else◌, cond, List, [], ◌∷◌, ◌++◌, length, Option, Some, None, Result, Ok, Err}
 use Rattle.knox_text.specs.declared.place.Place.{Place}
 use Rattle.knox_text.specs.Lines.{lines, begins_with}
 use Rattle.knox_text.specs.Places.{start_of, end_of}

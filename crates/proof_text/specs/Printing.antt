@@ -1,6 +1,6 @@
 -- What formulas and proofs are printed as: a clause or a line of a proof on a line of its own, with single
 -- spaces and numbers without zeros in front. A deletion is printed with the id 0.
-use Rattle.std.specs.Prelude.{ℕ, zero, suc, Bool, true, false, List, [], ◌∷◌, ◌++◌, flat_map, length, codes, ℤ, pos, negsuc, unsigned_abs}
+use Rattle.std.specs.Prelude.{ℕ, List, [], ◌∷◌, ◌++◌, flat_map, length, codes, ℤ, pos, negsuc, unsigned_abs}
 use Rattle.std.specs.Fmt.{decimal}
 use Rattle.knox_cnf.specs.Literals.{Literal, number_of}
 use Rattle.knox_cnf.specs.declared.formula.Cnf.{Cnf}

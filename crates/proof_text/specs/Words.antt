@@ -2,7 +2,7 @@
 -- of bytes that are neither spaces nor tabs. A number is a run of decimal digits, may begin with zeros,
 -- and may have one minus directly before its digits.
 -- The project's own: a value from 2 ^ 64 on counts as 2 ^ 64, which no place of a formula or a proof holds.
-use Rattle.std.specs.Prelude.{ℕ, suc, ◌+◌, ◌-◌, ◌^◌, ◌==◌, ◌&&◌, not, Bool, true, false, if◌then◌else◌, List, [], ◌∷◌, length, min, Option, Some, None}
+use Rattle.std.specs.Prelude.{ℕ, suc, ◌+◌, ◌-◌, ◌^◌, ◌==◌, ◌&&◌, Bool, true, false, if◌then◌else◌, List, [], ◌∷◌, length, min, Option, Some, None}
 use Rattle.std.specs.List.{list_all}
 use Rattle.knox_text.specs.declared.place.Place.{Place}
 use Rattle.knox_text.specs.Lines.{is_blank, begins_token}

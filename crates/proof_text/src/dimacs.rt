@@ -190,12 +190,7 @@ fn take_word(alloc: Global, draft: &mut Draft, at: Place, word: &[u8]) -> Result
     }
 }
 
-fn take_words(
-    alloc: Global,
-    draft: &mut Draft,
-    line: Line,
-    text: &[u8],
-) -> Result<(), ProofFault>
+fn take_words(alloc: Global, draft: &mut Draft, line: Line, text: &[u8]) -> Result<(), ProofFault>
     requires { line.width ≤ 67108864 }
     ensures { Takes result draft.new (with_words draft.old line.number line.width (words text.now)) }
 {
@@ -211,12 +206,7 @@ fn take_words(
     Ok(())
 }
 
-fn take_line(
-    alloc: Global,
-    draft: &mut Draft,
-    number: u32,
-    line: &[u8],
-) -> Result<(), ProofFault>
+fn take_line(alloc: Global, draft: &mut Draft, number: u32, line: &[u8]) -> Result<(), ProofFault>
     requires { length line.now ≤ 67108864 }
     ensures { Takes result draft.new (with_line draft.old number line.now) }
 {

@@ -11,6 +11,8 @@ mod number;
 mod place;
 mod printing;
 mod proof_line;
+#[cfg(test)]
+mod tests;
 mod word;
 
 pub use dimacs::read_cnf;

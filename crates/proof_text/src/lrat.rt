@@ -101,7 +101,11 @@ fn read_lits<'a>(line: Line, text: &'a [u8], lits: &mut Items<Lit>) -> Result<&'
 }
 
 /// Reads hints up to the 0, and answers the line behind it.
-fn read_hints<'a>(line: Line, text: &'a [u8], hints: &mut Items<i64>) -> Result<&'a [u8], ProofFault>
+fn read_hints<'a>(
+    line: Line,
+    text: &'a [u8],
+    hints: &mut Items<i64>,
+) -> Result<&'a [u8], ProofFault>
     requires width { line.width ≤ 67108864 }
     requires none { hints.old ≡ [] }
     ensures ok { IfOk result (λ rest. numbers hint_is line.number line.width (words text.now) ≡ Ok (hints.new, words rest.now)) }
@@ -168,7 +172,11 @@ fn addition(
     let mut hints = Items::new(alloc);
     let behind_lits = read_lits(line, text, &mut lits)?;
     let behind_hints = read_hints(line, behind_lits, &mut hints)?;
-    end_line(line, behind_hints, ProofLine::Add(line.number, id, lits, hints))
+    end_line(
+        line,
+        behind_hints,
+        ProofLine::Add(line.number, id, lits, hints),
+    )
 }
 
 fn deletion(alloc: Global, line: Line, text: &[u8]) -> Result<Option<ProofLine>, ProofFault>
@@ -187,13 +195,7 @@ fn behind_d(text: &[u8]) -> Option<&[u8]>
 {
     match cut_word(text) {
         None => None,
-        Some(cut) => {
-            if is_d(cut.word) {
-                Some(cut.rest)
-            } else {
-                None
-            }
-        }
+        Some(cut) => { if is_d(cut.word) { Some(cut.rest) } else { None } }
     }
 }
 
@@ -244,11 +246,7 @@ fn entry(alloc: Global, line: Line, text: &[u8]) -> Result<Option<ProofLine>, Pr
     }
 }
 
-fn read_line(
-    alloc: Global,
-    number: u32,
-    text: &[u8],
-) -> Result<Option<ProofLine>, ProofFault>
+fn read_line(alloc: Global, number: u32, text: &[u8]) -> Result<Option<ProofLine>, ProofFault>
     requires { length text.now ≤ 67108864 }
     ensures { Answers result (line_of number text.now) }
 {

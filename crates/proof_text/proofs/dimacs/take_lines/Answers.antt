@@ -1,4 +1,4 @@
-use Rattle.std.proofs.Common.{◌≡◌, ◌≤◌, ◌∙◌, length, arith, subst, sym}
+use Rattle.std.proofs.Common.{◌≤◌, ◌∙◌, length, arith, subst, sym}
 use Rattle.knox_text.specs.Lines.{lines}
 use Rattle.proof_text.specs.Dimacs.{Takes}
 use Rattle.proof_text.proofs.WordLemmas.{first_line_short}

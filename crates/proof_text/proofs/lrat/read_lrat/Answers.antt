@@ -1,4 +1,4 @@
-use Rattle.std.proofs.Common.{◌≡◌, ◌≤◌, ◌+◌, ◌∙◌, length, arith, ap, sym}
+use Rattle.std.proofs.Common.{◌≤◌, ◌+◌, ◌∙◌, length, arith, ap, sym}
 use Rattle.knox_text.specs.Lines.{lines}
 use Rattle.proof_text.specs.Lrat.{lines_of}
 use Rattle.proof_text.proofs.WordLemmas.{first_line_short}
@@ -18,8 +18,8 @@ loop-cut-preserved c =
     let room = c.loop-cut.invariant.room in
     record {
       told = c.loop-cut.invariant.told
-        ∙ lines-more c.loop-cut.number c.loop-cut.lines c.in-Some.cut.piece.now c.loop-cut.rest.now c.in-Some.cut.rest.now c.read_line.result c.in-Ok.line c.in-Some.ensures.line c.read_line.ensures c.in-Ok.is
-        ∙ ap (λ xs. after xs (lines_of (c.loop-cut.number + 1) (lines c.in-Some.cut.rest.now))) (sym c.in_ok-push_some-in-Ok.ensures.ok);
+          ∙ lines-more c.loop-cut.number c.loop-cut.lines c.in-Some.cut.piece.now c.loop-cut.rest.now c.in-Some.cut.rest.now c.read_line.result c.in-Ok.line c.in-Some.ensures.line c.read_line.ensures c.in-Ok.is
+          ∙ ap (λ xs. after xs (lines_of (c.loop-cut.number + 1) (lines c.in-Some.cut.rest.now))) (sym c.in_ok-push_some-in-Ok.ensures.ok);
       counted = omega arith;
       room = omega (arith, shorter, room);
     }
