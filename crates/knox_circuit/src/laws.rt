@@ -1,7 +1,9 @@
 //! Laws of circuits, as functions that change nothing.
-ghost use Rattle.std.specs.Prelude.{◌≡◌, List, Bool, true, [], length};
+ghost use Rattle.std.specs.Prelude.{◌≡◌, List, Bool, true, [], length, is_none};
+ghost use Rattle.std.specs.List.{list_all};
 ghost use Rattle.knox_words.specs.Bits.{Bits};
 ghost use Rattle.knox_words.specs.Lists.{fit, are_widths};
+ghost use Rattle.knox_circuit.specs.declared.circuit.Cell.{Cell};
 ghost use Rattle.knox_circuit.specs.Circuit.{cells_of, state_after_tick, state_widths, input_widths};
 ghost use Rattle.knox_circuit.specs.Power.{factory_state, state_after_power, noise_widths, states_of, persistent_words, persistent_widths, spread_words};
 ghost use Rattle.knox_circuit.specs.States.{words_in};
@@ -43,6 +45,13 @@ pub fn persistent_words_are_spread(c: &Circuit)
     ensures fitting { (keep : List Bool) (state : List Bits) → fit (state_widths (cells_of c.now.lines)) state ≡ true → fit (persistent_widths (cells_of c.now.lines) keep) (persistent_words (cells_of c.now.lines) keep state) ≡ true }
     ensures spread { (keep : List Bool) (words : List Bits) → fit (persistent_widths (cells_of c.now.lines) keep) words ≡ true → fit (state_widths (cells_of c.now.lines)) (spread_words (cells_of c.now.lines) keep words) ≡ true }
     ensures back { (keep : List Bool) (words : List Bits) → fit (persistent_widths (cells_of c.now.lines) keep) words ≡ true → persistent_words (cells_of c.now.lines) keep (spread_words (cells_of c.now.lines) keep words) ≡ words }
+{
+    let _tables = c.tables();
+}
+
+/// Each cell of a circuit is one word.
+pub fn cells_are_single_words(c: &Circuit)
+    ensures { list_all (λ (x : Cell). is_none x.index) (cells_of c.now.lines) ≡ true }
 {
     let _tables = c.tables();
 }
