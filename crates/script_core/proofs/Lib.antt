@@ -1,0 +1,10 @@
+pub mod Counting
+pub mod Widening
+pub mod Formed
+pub mod Reaching
+pub mod Projections
+pub mod Walking
+pub mod Rooted
+pub mod Starting
+pub mod Deciding
+pub mod Bits

@@ -1,1 +1,6 @@
+pub mod Hints
+pub mod Runs
+pub mod Widths
+pub mod Decisions
 pub mod Rooms
+pub mod Reached

@@ -1,12 +1,48 @@
--- What a room for runs is made for: how large a scratch area, and how many outputs.
-use Rattle.std.specs.Prelude.{ℕ, length}
-use Rattle.knox_circuit.specs.Circuit.{Circuit, Sizes, sizes_of}
+-- What a room for runs is made for, and the state of a run that it holds. The project's own.
+use Rattle.std.specs.Prelude.{ℕ, List, [], length, vec_len}
+use Rattle.knox_theory.specs.Script.{State}
+use Rattle.knox_circuit.specs.Circuit.{Sizes, sizes_of, cells_of, state_widths, input_widths}
+use Rattle.knox_circuit.specs.Power.{persistent_widths}
+use Rattle.knox_lang.specs.WellFormed.{word_widths}
+use Rattle.emu_machine.specs.declared.device.Device.{Device}
 use Rattle.emu_machine.specs.Fits.{outputs}
+use Rattle.script_core.specs.declared.room.Room.{Room}
 
+-- how large a scratch area is, how many outputs there are, and the widths of the words that runs take: of the specification's fields, the persistent
+-- words, all device words, the emulator's words and the inputs
 pub record RoomSizes : Type 0 where
   pub scratch : Sizes
   pub outputs : ℕ
+  pub fields : List ℕ
+  pub persistent : List ℕ
+  pub cells : List ℕ
+  pub emu : List ℕ
+  pub inputs : List ℕ
 
--- room for the runs on a circuit
-abbrev pub room_for : Circuit → RoomSizes
-room_for c = record { scratch = sizes_of c.lines; outputs = length (outputs c) }
+-- what the runs on a device ask of a room
+abbrev pub room_for : Device → RoomSizes
+room_for v = record {
+  scratch = sizes_of v.circuit.lines;
+  outputs = length (outputs v.circuit);
+  fields = word_widths v.spec.init;
+  persistent = persistent_widths (cells_of v.circuit.lines) v.driver.keep;
+  cells = state_widths (cells_of v.circuit.lines);
+  emu = word_widths v.emulator.init;
+  inputs = input_widths v.circuit.lines;
+}
+
+-- what a room is made for
+abbrev pub made_for : Room → RoomSizes
+made_for r = record {
+  scratch = r.scratch;
+  outputs = vec_len r.outputs;
+  fields = r.widths.fields.items;
+  persistent = r.widths.persistent.items;
+  cells = r.widths.cells.items;
+  emu = r.widths.emu.items;
+  inputs = r.widths.inputs.items;
+}
+
+-- the state of the run in a room; no emulator has a copy of the circuit yet
+abbrev pub state_in : Room → State
+state_in r = record { fields = r.fields; cells = r.device.words; emu = r.emulator; copy = [] }

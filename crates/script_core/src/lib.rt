@@ -3,16 +3,19 @@
 #![tactic(auto)]
 
 mod decide;
+mod evaluate;
+mod laws;
 mod parts;
 mod room;
 mod run;
 mod script;
+mod spread;
 mod start;
 mod widths;
 
-pub use decide::{Checked, check};
+pub use decide::{Checked, Plain, check, plain_decide};
+pub use laws::scripts_are_formed;
 pub use parts::{Act, Choices, HintNo, Item, Kind, ScriptParts, Section, SegmentNo};
-pub use room::Room;
 pub use run::{ScriptEnd, run_choices};
 pub use script::{Script, fits_script};
 pub use start::starts_refined;

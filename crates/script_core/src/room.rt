@@ -1,32 +1,43 @@
 //! The present state of a run, and the buffers that are kept from one run to the next.
-ghost use Rattle.std.specs.Prelude.{◌≡◌, IfOk};
-ghost use Rattle.script_core.specs.Rooms.{room_for};
+ghost use Rattle.std.specs.Prelude.{◌≡◌, ℕ, suc, List, [], true, IfOk, OnOk};
+ghost use Rattle.knox_words.specs.Lists.{fit};
+ghost use Rattle.knox_theory.specs.WireSegments.{same_outs, ticked, is_refined};
+ghost use Rattle.knox_circuit.specs.Circuit.{cells_of, state_widths, input_widths};
+ghost use Rattle.knox_circuit.specs.Power.{persistent_words, spread_words, state_after_power};
+ghost use Rattle.script_core.specs.declared.parts.Item.{Item};
+ghost use Rattle.script_core.specs.declared.parts.ScriptParts.{ScriptParts};
+ghost use Rattle.script_core.specs.Hints.{refines, section_items, holds, seen};
+ghost use Rattle.script_core.specs.Reached.{design, script, passes, here, course_from, ticks_from, wire_run, cut_run, Leads};
+ghost use Rattle.script_core.specs.Rooms.{room_for, made_for, state_in};
 
 use crate::parts::HintNo;
 use crate::run::{Left, Progress, take_words};
 use crate::script::Script;
 use crate::widths::Widths;
+use crate::{evaluate, spread};
 use emu_machine::{Device, EmuRoom};
 use knox_circuit::{Inputs, Noise, Scratch, State};
-use knox_lang::{Expr, Spaces};
+use knox_lang::Expr;
 use knox_words::{Word, Words};
 use std::alloc::{AllocError, Global};
-use std::marker::Model;
 use std::mem;
 
-/// Room for the runs of scripts on a device. Its spaces hold the present state of a run: the
+/// Room for the runs of scripts on a device. It holds the present state of a run: the
 /// specification's fields, the device words and the emulator's words.
-pub struct Room {
-    widths: Widths,
-    place: Spaces,
-    bound: Words,
-    emulator: EmuRoom,
-    scratch: Scratch,
-    state: State,
-    inputs: Inputs,
-    outputs: Vec<Word>,
-    shown: Words,
-    kept: Words,
+pub(crate) struct Room {
+    pub(crate) widths: Widths,
+    pub(crate) fields: Words,
+    pub(crate) device: State,
+    pub(crate) emulator: Words,
+    pub(crate) inputs: Inputs,
+    pub(crate) scratch: Scratch,
+    pub(crate) outputs: Vec<Word>,
+    pub(crate) shown: Words,
+    pub(crate) emulation: EmuRoom,
+    pub(crate) kept: Words,
+    pub(crate) spread: Words,
+    pub(crate) none: Words,
+    pub(crate) bound: Words,
 }
 
 // Written out, so that letting a room go is proved once.
@@ -34,81 +45,48 @@ impl Drop for Room {
     fn drop(self) {
         let Room {
             widths: _widths,
-            place: _place,
-            bound: _bound,
+            fields: _fields,
+            device: _device,
             emulator: _emulator,
-            scratch: _scratch,
-            state: _state,
             inputs: _inputs,
+            scratch: _scratch,
             outputs: _outputs,
             shown: _shown,
+            emulation: _emulation,
             kept: _kept,
+            spread: _spread,
+            none: _none,
+            bound: _bound,
         } = self;
     }
 }
 
-impl Model for Room {
-    ghost use Rattle.std.specs.Prelude.{vec_len};
-    ghost use Rattle.script_core.specs.Rooms.{RoomSizes};
-
-    ghost Value = { RoomSizes };
-
-    ghost view = { λ r. record { scratch = r.scratch; outputs = vec_len r.outputs } };
-}
-
-/// Device words with these words in the persistent cells, and zeros in the others.
-fn spread(keep: &[bool], widths: &[u8], kept: &[Word], into: &mut Words) -> Result<(), AllocError> {
-    into.clear();
-    let mut left = kept;
-    for (is_kept, width) in keep.iter().zip(widths.iter()) {
-        match left.split_first() {
-            Some((word, more)) if *is_kept => {
-                into.push(*word)?;
-                left = more;
-            }
-            _ => into.push(knox_words::word_or(*width, 0))?,
-        }
-    }
-    Ok(())
-}
-
-/// The device words after a power-cycle without noise. Words of another number than the circuit's
-/// are left as they are.
-fn after_power(alloc: Global, dev: &Device, state: &State) -> Result<Words, AllocError> {
-    let keep = dev.driver.keep();
-    if state.words.len() != dev.circuit.word_count() || keep.len() != dev.circuit.cells().len() {
-        return state.words.copy(alloc);
-    }
-    let noise = Noise {
-        words: Words::new(alloc),
-    };
-    let after = dev.circuit.power(keep, state, &noise)?;
-    Ok(after.words)
-}
-
 impl Room {
     /// Room for the runs on this device.
-    pub fn new(alloc: Global, dev: &Device) -> Result<Room, AllocError>
-        ensures { IfOk result (λ r. r ≡ room_for dev.now.circuit) }
+    pub(crate) fn new(alloc: Global, dev: &Device) -> Result<Room, AllocError>
+        ensures { IfOk result (λ r. made_for r ≡ room_for dev.now) }
     {
         let widths = Widths::of(alloc, dev)?;
         let scratch = dev.circuit.scratch()?;
         let outputs = vec![in alloc; knox_words::zero(); dev.circuit.outputs_list().len()]?;
         Ok(Room {
             widths,
-            place: Spaces::new(alloc),
-            bound: Words::new(alloc),
-            emulator: EmuRoom::new(alloc),
-            scratch,
-            state: State {
+            fields: Words::new(alloc),
+            device: State {
                 words: Words::new(alloc),
             },
+            emulator: Words::new(alloc),
             inputs: Inputs {
                 words: Words::new(alloc),
             },
+            scratch,
             outputs,
             shown: Words::new(alloc),
+            emulation: EmuRoom::new(alloc),
             kept: Words::new(alloc),
+            spread: Words::new(alloc),
+            none: Words::new(alloc),
+            bound: Words::new(alloc),
         })
     }
 
@@ -119,11 +97,46 @@ impl Room {
         dev: &Device,
         condition: &Expr,
     ) -> Result<bool, AllocError>
-        ensures { self.new ≡ self.old }
+        ensures value { IfOk result (λ b. b ≡ holds dev.now.spec.funs condition.now (seen self.old.fields self.old.device.words self.old.emulator)) }
+        ensures state { state_in self.new ≡ state_in self.old }
+        ensures made { made_for self.new ≡ made_for self.old }
     {
-        let funs = dev.spec.parts().funs.as_slice();
-        let word = knox_lang::eval_in(alloc, condition, funs, &self.place, &mut self.bound)?;
-        Ok(word.value() == 1)
+        evaluate::holds(
+            alloc,
+            dev.spec.parts().funs.as_slice(),
+            condition,
+            &mut self.fields,
+            &mut self.device.words,
+            &mut self.emulator,
+            &mut self.bound,
+        )
+    }
+
+    /// Whether `refine` is 1 of the present fields and the persistent words in `kept`, which are
+    /// then spread over the device words of `spread`.
+    fn is_refined(&mut self, alloc: Global, dev: &Device, sc: &Script) -> Result<bool, AllocError>
+        ensures value { IfOk result (λ b. b ≡ refines dev.now.spec.funs (cells_of dev.now.circuit.lines) dev.now.driver.keep sc.now.refine self.old.fields self.old.kept) }
+        ensures spread { OnOk result (self.new.spread ≡ spread_words (cells_of dev.now.circuit.lines) dev.now.driver.keep self.old.kept) }
+        ensures state { state_in self.new ≡ state_in self.old }
+        ensures made { made_for self.new ≡ made_for self.old }
+    {
+        knox_circuit::cells_are_single_words(&dev.circuit);
+        spread::spread(
+            dev.circuit.cells(),
+            dev.driver.keep(),
+            self.kept.as_slice(),
+            &mut self.spread,
+        )?;
+        self.none.clear();
+        evaluate::holds(
+            alloc,
+            dev.spec.parts().funs.as_slice(),
+            &sc.parts().refine,
+            &mut self.fields,
+            &mut self.spread,
+            &mut self.none,
+            &mut self.bound,
+        )
     }
 
     /// The root of `wire`: takes fields and persistent words, goes on where `refine` is 1 of them,
@@ -135,9 +148,13 @@ impl Room {
         sc: &Script,
         words: &'a [Word],
     ) -> Result<Left<'a>, AllocError>
-        ensures { self.new ≡ self.old }
+        requires { made_for self.old ≡ room_for dev.now }
+        ensures run { IfOk result (λ l. Leads dev.now (wire_run dev.now sc.now) words.now (state_in self.new) (λ st. course_from dev.now sc.now (section_items sc.now.sections) (here st)) l) }
+        ensures made { made_for self.new ≡ made_for self.old }
     {
-        let left = match take_words(self.widths.fields.as_slice(), words, &mut self.place.spec)? {
+        knox_circuit::circuits_have_widths(&dev.circuit);
+        knox_circuit::persistent_words_are_spread(&dev.circuit);
+        let left = match take_words(self.widths.fields.as_slice(), words, &mut self.fields)? {
             Left::Ended(end) => return Ok(Left::Ended(end)),
             Left::On(left) => left,
         };
@@ -145,30 +162,32 @@ impl Room {
             Left::Ended(end) => return Ok(Left::Ended(end)),
             Left::On(left) => left,
         };
-        spread(
-            dev.driver.keep(),
-            self.widths.cells.as_slice(),
-            self.kept.as_slice(),
-            &mut self.place.device,
-        )?;
-        if !self.holds(alloc, dev, &sc.parts().refine)? {
+        if !self.is_refined(alloc, dev, sc)? {
             return Ok(Left::Ended(Progress::Vacuous));
         }
         self.cycle_power(alloc, dev)?;
         Ok(Left::On(left))
     }
 
-    /// Cycles the power of the device, and starts a fresh emulator. Device words of another number
-    /// than the circuit's are left as they are.
+    /// Cycles the power of the device whose words are in `spread`, and starts a fresh emulator.
     fn cycle_power(&mut self, alloc: Global, dev: &Device) -> Result<(), AllocError>
-        ensures { self.new ≡ self.old }
+        requires { fit (state_widths (cells_of dev.now.circuit.lines)) self.old.spread ≡ true }
+        ensures cells { OnOk result (self.new.device.words ≡ state_after_power dev.now.circuit.lines dev.now.driver.keep self.old.spread []) }
+        ensures fit { OnOk result (fit (state_widths (cells_of dev.now.circuit.lines)) self.new.device.words ≡ true) }
+        ensures emu { OnOk result (self.new.emulator ≡ dev.now.emulator.init) }
+        ensures fields { self.new.fields ≡ self.old.fields }
+        ensures made { made_for self.new ≡ made_for self.old }
     {
-        mem::swap(&mut self.state.words, &mut self.place.device);
-        let words = after_power(alloc, dev, &self.state)?;
-        self.place.device = words;
-        self.place
-            .emu
-            .copy_from(dev.emulator.parts().init.as_slice())
+        knox_circuit::circuits_have_widths(&dev.circuit);
+        knox_circuit::circuits_keep_widths(&dev.circuit);
+        let noise = Noise {
+            words: Words::new(alloc),
+        };
+        mem::swap(&mut self.device.words, &mut self.spread);
+        self.device = dev.circuit.power(dev.driver.keep(), &self.device, &noise)?;
+        self.emulator
+            .copy_from(dev.emulator.parts().init.as_slice())?;
+        Ok(())
     }
 
     /// The root of a cut: takes fields, device words and the emulator's words, and goes on where
@@ -180,17 +199,19 @@ impl Room {
         condition: &Expr,
         words: &'a [Word],
     ) -> Result<Left<'a>, AllocError>
-        ensures { self.new ≡ self.old }
+        requires { made_for self.old ≡ room_for dev.now }
+        ensures run { IfOk result (λ l. (p : ScriptParts) (items : List Item) → Leads dev.now (cut_run dev.now p condition.now items) words.now (state_in self.new) (λ st. course_from dev.now p items (here st)) l) }
+        ensures made { made_for self.new ≡ made_for self.old }
     {
-        let left = match take_words(self.widths.fields.as_slice(), words, &mut self.place.spec)? {
+        let left = match take_words(self.widths.fields.as_slice(), words, &mut self.fields)? {
             Left::Ended(end) => return Ok(Left::Ended(end)),
             Left::On(left) => left,
         };
-        let left = match take_words(self.widths.cells.as_slice(), left, &mut self.place.device)? {
+        let left = match take_words(self.widths.cells.as_slice(), left, &mut self.device.words)? {
             Left::Ended(end) => return Ok(Left::Ended(end)),
             Left::On(left) => left,
         };
-        let left = match take_words(self.widths.emu.as_slice(), left, &mut self.place.emu)? {
+        let left = match take_words(self.widths.emu.as_slice(), left, &mut self.emulator)? {
             Left::Ended(end) => return Ok(Left::Ended(end)),
             Left::On(left) => left,
         };
@@ -211,8 +232,10 @@ impl Room {
         hint: HintNo,
         words: &'a [Word],
     ) -> Result<Left<'a>, AllocError>
-        requires { self.old ≡ room_for dev.now.circuit }
-        ensures { self.new ≡ self.old }
+        requires made { made_for self.old ≡ room_for dev.now }
+        requires cells { fit (state_widths (cells_of dev.now.circuit.lines)) self.old.device.words ≡ true }
+        ensures run { IfOk result (λ l. (n : ℕ) (items : List Item) → Leads dev.now (ticks_from dev.now sc.now hint.0 (suc n) items (state_in self.old)) words.now (state_in self.new) (ticks_from dev.now sc.now hint.0 n items) l) }
+        ensures made { made_for self.new ≡ made_for self.old }
     {
         let left = match take_words(self.widths.inputs.as_slice(), words, &mut self.inputs.words)? {
             Left::Ended(end) => return Ok(Left::Ended(end)),
@@ -222,30 +245,52 @@ impl Room {
             return Ok(Left::Ended(Progress::Failed(hint)));
         }
         self.tick_both(alloc, dev)?;
-        if self.holds(alloc, dev, &sc.parts().refine)? {
+        if self.stays_refined(alloc, dev, sc)? {
             Ok(Left::On(left))
         } else {
             Ok(Left::Ended(Progress::Failed(hint)))
         }
     }
 
+    /// Whether `refine` is 1 of the present state.
+    fn stays_refined(
+        &mut self,
+        alloc: Global,
+        dev: &Device,
+        sc: &Script,
+    ) -> Result<bool, AllocError>
+        ensures value { IfOk result (λ b. b ≡ is_refined (design dev.now) (script dev.now sc.now) (state_in self.old)) }
+        ensures state { state_in self.new ≡ state_in self.old }
+        ensures made { made_for self.new ≡ made_for self.old }
+    {
+        knox_circuit::cells_are_single_words(&dev.circuit);
+        spread::persistent(
+            dev.circuit.cells(),
+            dev.driver.keep(),
+            self.device.words.as_slice(),
+            &mut self.kept,
+        )?;
+        self.is_refined(alloc, dev, sc)
+    }
+
     /// Whether circuit and emulator show the same outputs under the present inputs.
     fn shows_the_same(&mut self, alloc: Global, dev: &Device) -> Result<bool, AllocError>
-        requires { self.old ≡ room_for dev.now.circuit }
-        ensures { self.new ≡ self.old }
+        requires { made_for self.old ≡ room_for dev.now }
+        ensures value { IfOk result (λ b. b ≡ same_outs (design dev.now) (state_in self.old) self.old.inputs.words) }
+        ensures inputs { self.new.inputs.words ≡ self.old.inputs.words }
+        ensures state { state_in self.new ≡ state_in self.old }
+        ensures made { made_for self.new ≡ made_for self.old }
     {
-        mem::swap(&mut self.state.words, &mut self.place.device);
         dev.circuit.outputs(
-            &self.state,
+            &self.device,
             &self.inputs,
             &mut self.scratch,
             self.outputs.as_mut_slice(),
         );
-        mem::swap(&mut self.state.words, &mut self.place.device);
-        self.emulator.outputs(
+        self.emulation.outputs(
             alloc,
             &dev.emulator,
-            self.place.emu.as_slice(),
+            self.emulator.as_slice(),
             self.inputs.words.as_slice(),
             &mut self.shown,
         )?;
@@ -254,23 +299,27 @@ impl Room {
 
     /// Ticks circuit and emulator under the present inputs.
     fn tick_both(&mut self, alloc: Global, dev: &Device) -> Result<(), AllocError>
-        requires { self.old ≡ room_for dev.now.circuit }
-        ensures { self.new ≡ self.old }
+        requires made { made_for self.old ≡ room_for dev.now }
+        requires cells { fit (state_widths (cells_of dev.now.circuit.lines)) self.old.device.words ≡ true }
+        requires inputs { fit (input_widths dev.now.circuit.lines) self.old.inputs.words ≡ true }
+        ensures state { OnOk result (state_in self.new ≡ ticked (design dev.now) (state_in self.old) self.old.inputs.words) }
+        ensures cells { OnOk result (fit (state_widths (cells_of dev.now.circuit.lines)) self.new.device.words ≡ true) }
+        ensures made { made_for self.new ≡ made_for self.old }
     {
-        mem::swap(&mut self.state.words, &mut self.place.device);
-        if self.state.words.len() == dev.circuit.word_count() {
-            dev.circuit
-                .tick(&mut self.state, &self.inputs, &mut self.scratch);
-        }
-        mem::swap(&mut self.state.words, &mut self.place.device);
-        self.emulator.tick(
+        knox_circuit::circuits_have_widths(&dev.circuit);
+        knox_circuit::circuits_keep_widths(&dev.circuit);
+        emu_machine::dialogue_is_the_tick();
+        dev.circuit
+            .tick(&mut self.device, &self.inputs, &mut self.scratch);
+        self.emulation.tick(
             alloc,
             &dev.spec,
             &dev.emulator,
-            &mut self.place.spec,
-            &mut self.place.emu,
+            &mut self.fields,
+            &mut self.emulator,
             self.inputs.words.as_slice(),
-        )
+        )?;
+        Ok(())
     }
 
     /// Whether the condition of the cut with this hint is 1 of the present state. Without such a
@@ -282,7 +331,9 @@ impl Room {
         sc: &Script,
         target: HintNo,
     ) -> Result<bool, AllocError>
-        ensures { self.new ≡ self.old }
+        ensures value { IfOk result (λ b. b ≡ passes dev.now sc.now target.0 (here (state_in self.old))) }
+        ensures state { state_in self.new ≡ state_in self.old }
+        ensures made { made_for self.new ≡ made_for self.old }
     {
         match sc.condition_of(target) {
             Some(condition) => self.holds(alloc, dev, condition),

@@ -1,6 +1,13 @@
 //! Runs of a segment over words.
-ghost use Rattle.std.specs.Prelude.{◌≡◌};
-ghost use Rattle.script_core.specs.Rooms.{room_for};
+ghost use Rattle.std.specs.Prelude.{◌≡◌, ◌<◌, List, true, IfOk, if◌then◌else◌};
+ghost use Rattle.knox_words.specs.Lists.{fit};
+ghost use Rattle.knox_theory.specs.Course.{run};
+ghost use Rattle.knox_circuit.specs.Circuit.{cells_of, state_widths};
+ghost use Rattle.script_core.specs.declared.parts.Item.{Item};
+ghost use Rattle.script_core.specs.Hints.{segment_items};
+ghost use Rattle.script_core.specs.Reached.{course_from, ticks_from, here, Takes, Leads};
+ghost use Rattle.script_core.specs.Rooms.{room_for, made_for, state_in};
+ghost use Rattle.script_core.specs.Runs.{ToEnd, ToFailure, reach, reach_of, end_of, end_said, course_at, segments_of};
 
 use crate::parts::{Act, Choices, HintNo, Item, SegmentNo};
 use crate::room::Room;
@@ -46,22 +53,47 @@ pub(crate) fn take_words<'a>(
     widths: &[u8],
     words: &'a [Word],
     into: &mut Words,
-) -> Result<Left<'a>, AllocError> {
+) -> Result<Left<'a>, AllocError>
+    ensures { IfOk result (λ l. Takes widths.now words.now into.new l) }
+{
     into.clear();
+    let mut wanted = widths;
     let mut left = words;
-    for width in widths {
-        match left.split_first() {
-            None => return Ok(Left::Ended(Progress::Wants(*width))),
-            Some((word, more)) => {
-                if word.width() != *width {
-                    return Ok(Left::Ended(Progress::Misfit));
-                }
-                into.push(*word)?;
-                left = more;
-            }
+    while let Some((width, others)) = wanted.split_first() {
+        let Some((word, more)) = left.split_first() else {
+            return Ok(Left::Ended(Progress::Wants(*width)));
+        };
+        if !knox_words::has_width(*word, *width) {
+            return Ok(Left::Ended(Progress::Misfit));
         }
+        into.push(*word)?;
+        wanted = others;
+        left = more;
     }
     Ok(Left::On(left))
+}
+
+/// The root of a segment: takes its words, and goes on where its condition is 1 of them.
+fn enter_segment<'a>(
+    alloc: Global,
+    dev: &Device,
+    sc: &Script,
+    g: SegmentNo,
+    words: &'a [Word],
+    room: &mut Room,
+) -> Result<Left<'a>, AllocError>
+    requires room { made_for room.old ≡ room_for dev.now }
+    requires segment { g.0 < 2 }
+    ensures run { IfOk result (λ l. Leads dev.now (course_at (segments_of dev.now.circuit dev.now.spec dev.now.driver dev.now.emulator sc.now) g.0) words.now (state_in room.new) (λ st. course_from dev.now sc.now (segment_items sc.now g.0) (here st)) l) }
+    ensures room { made_for room.new ≡ made_for room.old }
+{
+    let _parts = sc.parts();
+    let Some(cut) = sc.cut_of(g) else {
+        let root = room.attach(alloc, dev, sc, words)?;
+        return Ok(root);
+    };
+    let root = room.enter(alloc, dev, cut, words)?;
+    Ok(root)
 }
 
 /// The run of a segment over words: from its root through its items.
@@ -73,18 +105,17 @@ pub(crate) fn run_over(
     words: &[Word],
     room: &mut Room,
 ) -> Result<Progress, AllocError>
-    requires { room.old ≡ room_for dev.now.circuit }
-    ensures { room.new ≡ room.old }
+    requires room { made_for room.old ≡ room_for dev.now }
+    requires segment { g.0 < 2 }
+    ensures run { IfOk result (λ p. reach_of p ≡ reach (course_at (segments_of dev.now.circuit dev.now.spec dev.now.driver dev.now.emulator sc.now) g.0) words.now) }
+    ensures room { made_for room.new ≡ made_for room.old }
 {
-    let items = sc.items_of(g);
-    let root = match sc.cut_of(g) {
-        None => room.attach(alloc, dev, sc, words)?,
-        Some(cut) => room.enter(alloc, dev, cut, words)?,
+    let left = match enter_segment(alloc, dev, sc, g, words, room)? {
+        Left::Ended(end) => return Ok(end),
+        Left::On(left) => left,
     };
-    match root {
-        Left::Ended(end) => Ok(end),
-        Left::On(left) => run_items(alloc, dev, sc, items, left, room),
-    }
+    let end = run_items(alloc, dev, sc, sc.items_of(g), left, room)?;
+    Ok(end)
 }
 
 /// The run of items over words, to the item that ends the segment.
@@ -96,8 +127,10 @@ fn run_items(
     words: &[Word],
     room: &mut Room,
 ) -> Result<Progress, AllocError>
-    requires { room.old ≡ room_for dev.now.circuit }
-    ensures { room.new ≡ room.old }
+    requires made { made_for room.old ≡ room_for dev.now }
+    requires cells { fit (state_widths (cells_of dev.now.circuit.lines)) room.old.device.words ≡ true }
+    ensures run { IfOk result (λ p. reach_of p ≡ reach (course_from dev.now sc.now items.now (here (state_in room.old))) words.now) }
+    ensures room { made_for room.new ≡ made_for room.old }
 {
     let mut left = words;
     for item in items {
@@ -116,11 +149,15 @@ fn run_items(
             }
         }
     }
-    Ok(Progress::Held)
+    // Items without a check at their end lead to hint 0, which no cut has.
+    let holds = room.passes(alloc, dev, sc, HintNo(0))?;
+    Ok(checked(holds, HintNo(0)))
 }
 
 /// The end of a segment at its last check.
-fn checked(holds: bool, hint: HintNo) -> Progress {
+fn checked(holds: bool, hint: HintNo) -> Progress
+    ensures { reach_of result ≡ (if holds then ToEnd else ToFailure hint.0) }
+{
     if holds {
         Progress::Held
     } else {
@@ -138,17 +175,33 @@ fn run_ticks<'a>(
     words: &'a [Word],
     room: &mut Room,
 ) -> Result<Left<'a>, AllocError>
-    requires { room.old ≡ room_for dev.now.circuit }
-    ensures { room.new ≡ room.old }
+    requires made { made_for room.old ≡ room_for dev.now }
+    requires cells { fit (state_widths (cells_of dev.now.circuit.lines)) room.old.device.words ≡ true }
+    ensures run { IfOk result (λ l. (items : List Item) → Leads dev.now (ticks_from dev.now sc.now hint.0 count items (state_in room.old)) words.now (state_in room.new) (λ st. course_from dev.now sc.now items (here st)) l) }
+    ensures room { made_for room.new ≡ made_for room.old }
 {
     let mut left = words;
-    for _ in 0..count {
+    let mut more_ticks = count;
+    while more_ticks > 0 {
+        more_ticks -= 1;
         match room.tick(alloc, dev, sc, hint, left)? {
             Left::Ended(end) => return Ok(Left::Ended(end)),
             Left::On(more) => left = more,
         }
     }
     Ok(Left::On(left))
+}
+
+/// The end of a run, as it is answered.
+fn end_at(progress: Progress) -> ScriptEnd
+    ensures { end_said result ≡ end_of (reach_of progress) }
+{
+    match progress {
+        Progress::Held => ScriptEnd::Held,
+        Progress::Vacuous => ScriptEnd::Vacuous,
+        Progress::Failed(hint) => ScriptEnd::Failed(hint),
+        Progress::Wants(_) | Progress::Misfit => ScriptEnd::Short,
+    }
 }
 
 /// The run of a segment over a list of words. Words that are left over are ignored.
@@ -158,13 +211,11 @@ pub fn run_choices(
     sc: &Script,
     g: SegmentNo,
     ch: &Choices,
-) -> Result<ScriptEnd, AllocError> {
+) -> Result<ScriptEnd, AllocError>
+    requires { g.0 < 2 }
+    ensures { IfOk result (λ e. end_said e ≡ run (course_at (segments_of dev.now.circuit dev.now.spec dev.now.driver dev.now.emulator sc.now) g.0) ch.now.words) }
+{
     let mut room = Room::new(alloc, dev)?;
     let end = run_over(alloc, dev, sc, g, ch.words.as_slice(), &mut room)?;
-    Ok(match end {
-        Progress::Held => ScriptEnd::Held,
-        Progress::Vacuous => ScriptEnd::Vacuous,
-        Progress::Failed(hint) => ScriptEnd::Failed(hint),
-        Progress::Wants(_) | Progress::Misfit => ScriptEnd::Short,
-    })
+    Ok(end_at(end))
 }

@@ -1,0 +1,18 @@
+use Rattle.std.proofs.Common.{◌≡◌, ◌∙◌, ap, ℕ, List, [], length, true}
+use Rattle.knox_words.specs.Lists.{fit}
+use Rattle.knox_circuit.specs.Circuit.{cells_of, state_widths}
+use Rattle.knox_circuit.specs.Power.{states_of, noise_widths}
+use Rattle.script_core.proofs.Projections.{keep-fits}
+use Rattle.script_core.proofs.room.Room.cycle_power.Goals as goal
+
+pub power-requires-clause-keep : goal.power-requires-clause-keep
+power-requires-clause-keep c = ap length c.keep.ensures ∙ keep-fits c.args.dev.now
+
+pub returns-clause-fit : goal.returns-clause-fit
+returns-clause-fit c =
+    let lines = c.args.dev.now.circuit.lines in
+    let keep = c.keep.result.now in
+    let quiet : fit (noise_widths (states_of lines) keep) c.new.result ≡ true = ap (λ (ns : List ℕ). fit ns c.new.result) (c.circuits_have_widths.ensures.noise keep) ∙ ap (fit []) c.new.ensures in
+    ap (fit (state_widths (cells_of lines))) c.in_ok-self.ensures.words
+    ∙ c.circuits_keep_widths.ensures.power keep c.swap.new.x c.new.result (ap length c.keep.ensures ∙ keep-fits c.args.dev.now)
+    (ap (fit (state_widths (cells_of lines))) c.swap.ensures.x_after ∙ c.requires) quiet
