@@ -1,3 +1,6 @@
 pub mod WordLemmas
 pub mod DimacsLemmas
 pub mod LratLemmas
+pub mod Digits
+pub mod CnfAgain
+pub mod CnfSound

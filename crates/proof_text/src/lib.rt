@@ -18,5 +18,5 @@ mod word;
 pub use dimacs::read_cnf;
 pub use fault::ProofFault;
 pub use lrat::read_lrat;
-pub use printing::{print_cnf, print_lrat};
+pub use printing::{formula_printed_again, print_cnf, print_lrat};
 pub use proof_line::ProofLine;
