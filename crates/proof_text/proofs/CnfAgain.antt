@@ -1,9 +1,9 @@
 -- What is printed of a formula that a text means, means it.
-use Rattle.std.proofs.Common.{◌≡◌, ℕ, zero, suc, ◌+◌, ◌^◌, ◌≤◌, ◌<◌, ◌==◌, Bool, true, false, not, leb, ltb, cond, ◌&&◌, if◌then◌else◌, List, [], ◌∷◌, ◌++◌, length, map, append_assoc, length-append, Option, Some, None, Result, Ok, Err, ◌⊎◌, inl, inr, refl, sym, ap, subst, ◌∙◌, arith}
+use Rattle.std.proofs.Common.{◌≡◌, ℕ, zero, suc, ◌+◌, ◌^◌, ◌≤◌, ◌<◌, ◌==◌, Bool, true, false, not, ◌&&◌, if◌then◌else◌, List, [], ◌∷◌, ◌++◌, length, map, append_assoc, length-append, Some, None, Result, Ok, Err, refl, sym, ap, ◌∙◌, arith}
 use Rattle.std.specs.Prelude.{flat_map, nat_le, codes, unsigned_abs}
 use Rattle.std.specs.List.{list_all}
 use Rattle.std.specs.Fmt.{decimal}
-use Rattle.std.proofs.lemmas.Bool.{le-leb, leb-true, cases_Bool, and_from, and_parts, eq-eqb, eqb-true, true≢false}
+use Rattle.std.proofs.lemmas.Bool.{le-leb, leb-true, and_from, and_parts, eq-eqb}
 use Rattle.std.proofs.lemmas.List.{append-nil}
 use Rattle.std.proofs.lemmas.List.Folds.{list_all-append}
 use Rattle.knox_text.specs.declared.place.Place.{Place}
@@ -12,16 +12,14 @@ use Rattle.knox_text.specs.Places.{start_of, end_of}
 use Rattle.knox_cnf.specs.Literals.{Literal, literal, number_of as number_is}
 use Rattle.knox_cnf.specs.declared.formula.Cnf.{Cnf}
 use Rattle.proof_text.specs.declared.fault.ProofFault.{ProofFault}
-use Rattle.proof_text.specs.declared.fault.ProofFault.TheVariants.{Header, Count, Variable, Shape}
-use Rattle.proof_text.specs.declared.number.Number.{Number}
+use Rattle.proof_text.specs.declared.fault.ProofFault.TheVariants.{Count, Shape}
 use Rattle.proof_text.specs.declared.draft.Draft.{Draft}
-use Rattle.proof_text.specs.declared.draft.Stage.{Stage}
-use Rattle.proof_text.specs.declared.draft.Stage.TheVariants.{Start, Format, Variables, Clauses, Body}
-use Rattle.proof_text.specs.Words.{Word, word, words, place_of, natural, number_of, unsigned}
+use Rattle.proof_text.specs.declared.draft.Stage.TheVariants.{Format, Variables, Clauses, Body}
+use Rattle.proof_text.specs.Words.{words, place_of, number_of, unsigned}
 use Rattle.proof_text.specs.Results.{and_then}
-use Rattle.proof_text.specs.Dimacs.{is_none, is_full, at_most, size_of, with_vars, with_count, with_number, with_clause_word, with_word, with_word_at, with_words, with_line, with_lines, finished, cnf, cnf_of, nothing, expected, at_stage, is_p, is_cnf}
-use Rattle.proof_text.specs.Printing.{sign_shown, natural_shown, signed_shown, literal_shown, clause_shown, header_shown, cnf_shown}
-use Rattle.proof_text.proofs.Digits.{in_word, in_line, no_minus, IsNatural, decimal-natural, number_of-decimal, number_of-minus, first-word, last-word, first-line, not-true, not-eqb}
+use Rattle.proof_text.specs.Dimacs.{is_none, is_full, at_most, size_of, with_vars, with_count, with_clause_word, with_word, with_words, with_line, with_lines, finished, cnf, cnf_of, nothing, at_stage}
+use Rattle.proof_text.specs.Printing.{sign_shown, natural_shown, literal_shown, clause_shown, header_shown, cnf_shown}
+use Rattle.proof_text.proofs.Digits.{in_word, in_line, no_minus, decimal-natural, number_of-decimal, number_of-minus, first-word, last-word, first-line, not-true, not-eqb}
 
 -- ---- the word of a literal
 
@@ -35,7 +33,7 @@ record IsLitWord (l : Literal) : Type 0 where
   start : begins_with 99 (lit_word l) ≡ false
   number : number_of (lit_word l) ≡ Some (record { negative = not l.positive; magnitude = l.var })
 
-start-of : (bytes : List ℕ) → no_minus bytes ≡ true → begins_with 99 bytes ≡ false
+pub start-of : (bytes : List ℕ) → no_minus bytes ≡ true → begins_with 99 bytes ≡ false
 start-of [] f = refl
 start-of (b ∷ bytes) f = not-true (b == 99) (and_parts (not (b == 45)) (not (b == 99)) f).1
 
@@ -77,7 +75,7 @@ good-word vars l small g =
     let high = leb-true l.var vars p.1 in
     lit-word-is l.var l.positive low (omega (arith, high, small))
 
-starts-on : (w rest : List ℕ) → 0 < length w → begins_with 99 w ≡ false → begins_with 99 (w ++ rest) ≡ false
+pub starts-on : (w rest : List ℕ) → 0 < length w → begins_with 99 w ≡ false → begins_with 99 (w ++ rest) ≡ false
 starts-on [] rest some e = absurd (omega arith)
 starts-on (b ∷ w) rest some e = e
 

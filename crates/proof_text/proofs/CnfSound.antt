@@ -1,13 +1,13 @@
 -- A formula that a text means has sizes and variables within their limits.
-use Rattle.std.proofs.Common.{◌≡◌, ℕ, zero, suc, ◌+◌, ◌≤◌, ◌<◌, ◌==◌, Bool, true, false, not, ◌&&◌, if◌then◌else◌, cond, List, [], ◌∷◌, ◌++◌, length, Option, Some, None, Result, Ok, Err, ◌⊎◌, inl, inr, refl, sym, ap, subst, ◌∙◌, arith}
+use Rattle.std.proofs.Common.{◌≡◌, ℕ, zero, suc, ◌+◌, ◌≤◌, ◌==◌, Bool, true, false, not, ◌&&◌, if◌then◌else◌, cond, List, [], ◌∷◌, ◌++◌, length, Option, Some, None, Result, Ok, Err, ◌⊎◌, inl, inr, refl, sym, ap, subst, ◌∙◌, arith}
 use Rattle.std.specs.Prelude.{nat_le}
 use Rattle.std.specs.List.{list_all}
-use Rattle.std.proofs.lemmas.Bool.{le-leb, leb-true, cases_Bool, and_from, and_parts, eqb-true, eqb-false, true≢false}
+use Rattle.std.proofs.lemmas.Bool.{le-leb, leb-true, and_from, and_parts, eqb-true, true≢false}
 use Rattle.std.proofs.lemmas.List.Folds.{list_all-append}
 use Rattle.knox_text.specs.declared.place.Place.{Place}
 use Rattle.knox_text.specs.Lines.{lines, begins_with}
 use Rattle.knox_text.specs.Places.{start_of, end_of}
-use Rattle.knox_cnf.specs.Literals.{Literal, literal}
+use Rattle.knox_cnf.specs.Literals.{literal}
 use Rattle.knox_cnf.specs.declared.formula.Cnf.{Cnf}
 use Rattle.proof_text.specs.declared.fault.ProofFault.{ProofFault}
 use Rattle.proof_text.specs.declared.fault.ProofFault.TheVariants.{Header, Count, Variable, Shape}
@@ -17,7 +17,7 @@ use Rattle.proof_text.specs.declared.draft.Stage.{Stage}
 use Rattle.proof_text.specs.declared.draft.Stage.TheVariants.{Start, Format, Variables, Clauses, Body}
 use Rattle.proof_text.specs.Words.{Word, words, place_of, number_of, unsigned}
 use Rattle.proof_text.specs.Results.{and_then}
-use Rattle.proof_text.specs.Dimacs.{is_none, is_full, at_most, size_of, with_vars, with_count, with_number, with_clause_word, with_word, with_word_at, with_words, with_line, with_lines, finished, finished_at, cnf, cnf_of, nothing, expected, at_stage, is_p, is_cnf}
+use Rattle.proof_text.specs.Dimacs.{is_none, is_full, at_most, size_of, with_vars, with_count, with_number, with_clause_word, with_word, with_word_at, with_words, with_line, with_lines, finished, finished_at, cnf, cnf_of, nothing, at_stage, is_p, is_cnf}
 use Rattle.proof_text.proofs.CnfAgain.{good, printed-read}
 use Rattle.proof_text.specs.Printing.{cnf_shown}
 

@@ -1,5 +1,5 @@
 -- What is printed of a number is read again.
-use Rattle.std.proofs.Common.{◌≡◌, ℕ, zero, suc, ◌+◌, ◌-◌, ◌*◌, ◌^◌, ◌≤◌, ◌<◌, ◌==◌, Bool, true, false, not, ltb, leb, cond, ◌&&◌, if◌then◌else◌, List, [], ◌∷◌, ◌++◌, length, Option, Some, None, refl, sym, ap, subst, ◌∙◌, arith, inl, inr}
+use Rattle.std.proofs.Common.{◌≡◌, ℕ, suc, ◌+◌, ◌-◌, ◌*◌, ◌^◌, ◌≤◌, ◌<◌, ◌==◌, Bool, true, false, not, ltb, ◌&&◌, if◌then◌else◌, List, [], ◌∷◌, ◌++◌, length, Some, None, refl, sym, ap, ◌∙◌, arith, inl, inr}
 use Rattle.std.specs.Prelude.{min}
 use Rattle.std.specs.List.{list_all}
 use Rattle.std.specs.Fmt.{decimal}
@@ -7,10 +7,9 @@ use Rattle.std.specs.Str.Parse.{AllDigits, digits_value_after}
 use Rattle.std.specs.Char.{digit_value}
 use Rattle.std.proofs.lemmas.Bool.{ltb-true, ltb-false, le-ltb, lt-ltb, le-leb, cases_Bool, and_from, and_parts, eqb-true, false_from_ne_true}
 use Rattle.std.proofs.lemmas.Fmt.{decimal_is_IsNumeral_wide}
-use Rattle.knox_text.specs.Lines.{is_blank, lines, begun, begins_with, begins_token}
+use Rattle.knox_text.specs.Lines.{is_blank, lines, begun, begins_with}
 use Rattle.knox_text.specs.Numbers.{digit_of, is_digit, value, value_behind, has_digits}
-use Rattle.proof_text.specs.declared.number.Number.{Number}
-use Rattle.proof_text.specs.Words.{Word, word, words, longer, with_letter, natural, with_sign, number_of, unsigned}
+use Rattle.proof_text.specs.Words.{Word, word, words, longer, with_letter, natural, with_sign, number_of}
 
 -- ---- digits
 
@@ -98,6 +97,7 @@ pub record IsNatural (bytes : List ℕ) (n : ℕ) : Type 0 where
   pub in_words : list_all in_word bytes ≡ true
   pub in_lines : list_all in_line bytes ≡ true
   pub first : no_minus bytes ≡ true
+  pub digits : list_all (is_digit 10) bytes ≡ true
   pub reads : natural bytes ≡ Some n
 
 natural-is : (bytes : List ℕ) (n : ℕ) → has_digits bytes ≡ true → list_all (is_digit 10) bytes ≡ true → value 10 bytes ≡ n → n < 2 ^ 64 → natural bytes ≡ Some n
@@ -114,6 +114,7 @@ decimal-natural n lt =
       in_words = d.in_words;
       in_lines = d.in_lines;
       first = first-digit (decimal n) h.0.0 h.0.1;
+      digits = d.digits;
       reads = natural-is (decimal n) n (has (decimal n) h.0.0) d.digits (d.value 0 ∙ h.1) lt;
     }
 

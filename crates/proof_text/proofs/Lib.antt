@@ -4,3 +4,5 @@ pub mod LratLemmas
 pub mod Digits
 pub mod CnfAgain
 pub mod CnfSound
+pub mod LratAgain
+pub mod LratSound
