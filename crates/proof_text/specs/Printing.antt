@@ -1,6 +1,6 @@
 -- What formulas and proofs are printed as: a clause or a line of a proof on a line of its own, with single
 -- spaces and numbers without zeros in front. A deletion is printed with the id 0.
-use Rattle.std.specs.Prelude.{ℕ, List, [], ◌∷◌, ◌++◌, flat_map, length, codes, ℤ, pos, negsuc, unsigned_abs}
+use Rattle.std.specs.Prelude.{◌+◌, ℕ, List, [], ◌∷◌, ◌++◌, flat_map, length, codes, ℤ, pos, negsuc, unsigned_abs}
 use Rattle.std.specs.Fmt.{decimal}
 use Rattle.knox_cnf.specs.Literals.{Literal, number_of}
 use Rattle.knox_cnf.specs.declared.formula.Cnf.{Cnf}
@@ -41,3 +41,12 @@ line_shown (Delete n ids) = codes "0 d " ++ (flat_map natural_shown ids ++ end_o
 
 abbrev pub lrat_shown : List ProofLine → List ℕ
 lrat_shown ls = flat_map line_shown ls
+
+-- a line with another number, and lines with numbers from a first one on
+abbrev pub numbered : ℕ → ProofLine → ProofLine
+numbered n (Add m id lits hints) = Add n id lits hints
+numbered n (Delete m ids) = Delete n ids
+
+abbrev pub renumbered : ℕ → List ProofLine → List ProofLine
+renumbered n [] = []
+renumbered n (l ∷ ls) = numbered n l ∷ renumbered (n + 1) ls

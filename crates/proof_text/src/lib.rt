@@ -5,6 +5,7 @@
 
 mod dimacs;
 mod draft;
+mod examples;
 mod fault;
 mod lrat;
 mod number;
@@ -16,7 +17,8 @@ mod tests;
 mod word;
 
 pub use dimacs::read_cnf;
+pub use examples::{formulas_as_expected, proofs_as_expected};
 pub use fault::ProofFault;
 pub use lrat::read_lrat;
-pub use printing::{print_cnf, print_lrat};
+pub use printing::{formula_printed_again, print_cnf, print_lrat, proof_printed_again};
 pub use proof_line::ProofLine;

@@ -1,7 +1,11 @@
 //! From formulas and proofs to bytes.
-ghost use Rattle.std.specs.Prelude.{◌≡◌, ◌++◌, ◌∷◌, [], codes, flat_map, length, IfOk, OnOk};
+ghost use Rattle.std.specs.Prelude.{◌≡◌, ◌++◌, ◌∷◌, [], codes, flat_map, length, IfOk, OnOk, Ok, List, ℕ};
 ghost use Rattle.std.specs.Fmt.{decimal};
-ghost use Rattle.proof_text.specs.Printing.{sign_shown, natural_shown, signed_shown, literal_shown, end_of_line, clause_shown, header_shown, cnf_shown, line_shown, lrat_shown};
+ghost use Rattle.knox_cnf.specs.declared.formula.Cnf.{Cnf};
+ghost use Rattle.proof_text.specs.Dimacs.{cnf_of};
+ghost use Rattle.proof_text.specs.Lrat.{lrat_of};
+ghost use Rattle.proof_text.specs.declared.proof_line.ProofLine.{ProofLine};
+ghost use Rattle.proof_text.specs.Printing.{sign_shown, natural_shown, signed_shown, literal_shown, end_of_line, clause_shown, header_shown, cnf_shown, line_shown, lrat_shown, renumbered};
 
 use crate::proof_line::ProofLine;
 use knox_cnf::{Clause, Cnf, Lit};
@@ -139,3 +143,14 @@ pub fn print_lrat(alloc: Global, lines: &[ProofLine]) -> Result<Items<u8>, Alloc
     }
     Ok(out)
 }
+
+/// What is printed of a formula that some text means is a text that means it.
+pub fn formula_printed_again()
+    ensures { (text : List ℕ) (f : Cnf) → cnf_of text ≡ Ok f → cnf_of (cnf_shown f) ≡ Ok f }
+{}
+
+/// What is printed of a proof that some text means is a text that means it, with the lines numbered
+/// from 1 on.
+pub fn proof_printed_again()
+    ensures { (text : List ℕ) (ls : List ProofLine) → lrat_of text ≡ Ok ls → lrat_of (lrat_shown ls) ≡ Ok (renumbered 1 ls) }
+{}
