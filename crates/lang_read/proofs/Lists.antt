@@ -1,5 +1,5 @@
 -- Things of a list that are read one after the other, as a loop reads them.
-use Rattle.std.proofs.Common.{◌≡◌, ℕ, ◌+◌, ◌≤◌, ◌<◌, List, [], ◌∷◌, ◌++◌, length, get_or, drop, Result, Ok, Err, refl, sym, subst, ap, ◌∙◌, drop-cons, add-one}
+use Rattle.std.proofs.Common.{◌≡◌, ℕ, ◌+◌, ◌≤◌, ◌<◌, List, ◌∷◌, length, get_or, drop, Result, Ok, Err, refl, sym, subst, ap, ◌∙◌, drop-cons, add-one}
 use Rattle.std.proofs.lemmas.List.{at_drop_all}
 use Rattle.lang_read.specs.declared.fault.LangWhy.{LangWhy}
 use Rattle.lang_read.specs.declared.fault.LangWhy.TheVariants.{Form, UnknownName, Twice, Width, Arity, Bound, Missing, Memory}

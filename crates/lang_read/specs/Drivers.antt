@@ -1,6 +1,6 @@
 -- Which driver the trees of a text mean: (driver (persistent x ..)), where the list may be left
 -- out. Without operations it is for wires alone.
-use Rattle.std.specs.Prelude.{ℕ, suc, ◌==◌, Bool, true, false, if◌then◌else◌, List, [], ◌∷◌, map, reverse, length, codes, Option, Some, None, Result, Ok}
+use Rattle.std.specs.Prelude.{ℕ, suc, ◌==◌, Bool, true, false, if◌then◌else◌, List, [], ◌∷◌, map, reverse, codes, Option, Some, None, Result, Ok}
 use Rattle.knox_text.specs.declared.place.Place.{Place}
 use Rattle.knox_sexpr.specs.declared.tree.Tree.{Tree}
 use Rattle.knox_words.specs.Bits.{Bits, word_or}

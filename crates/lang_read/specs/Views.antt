@@ -1,6 +1,6 @@
 -- What a tree is at its top. Reading gives a value, or the first fault: a fault is the earliest in
 -- the text, so that what stands before is read before.
-use Rattle.std.specs.Prelude.{◌≡◌, ◌&&◌, ℕ, suc, nat_le, Bool, true, false, if◌then◌else◌, List, [], ◌∷◌, codes, Result, Ok, Err}
+use Rattle.std.specs.Prelude.{◌≡◌, ◌&&◌, ℕ, suc, nat_le, Bool, false, if◌then◌else◌, List, [], ◌∷◌, Result, Ok, Err}
 use Rattle.std.specs.Str.{bytes_eq}
 use Rattle.knox_text.specs.declared.place.Place.{Place}
 use Rattle.knox_sexpr.specs.declared.tree.Tree.{Tree, out-Tree}

@@ -1,4 +1,4 @@
-use Rattle.std.proofs.Common.{◌≡◌, List, Result, Ok}
+use Rattle.std.proofs.Common.{◌≡◌, List, Ok}
 use Rattle.std.proofs.lemmas.Result.{err_from_is_err_and}
 use Rattle.knox_words.specs.Bits.{Bits}
 use Rattle.knox_lang.specs.declared.parts.Field.{Field}
