@@ -1,3 +1,5 @@
 pub mod Views
 pub mod Names
+pub mod Fields
+pub mod Drivers
 pub mod Expressions

@@ -1,6 +1,6 @@
 -- What a tree is at its top. Reading gives a value, or the first fault: a fault is the earliest in
 -- the text, so that what stands before is read before.
-use Rattle.std.specs.Prelude.{◌≡◌, ◌&&◌, ℕ, nat_le, Bool, true, false, if◌then◌else◌, List, codes, Result, Ok, Err}
+use Rattle.std.specs.Prelude.{◌≡◌, ◌&&◌, ℕ, suc, nat_le, Bool, false, if◌then◌else◌, List, [], ◌∷◌, Result, Ok, Err}
 use Rattle.std.specs.Str.{bytes_eq}
 use Rattle.knox_text.specs.declared.place.Place.{Place}
 use Rattle.knox_sexpr.specs.declared.tree.Tree.{Tree, out-Tree}
@@ -81,3 +81,49 @@ parts_in (Tree-F.List at parts close) = Ok parts
 
 abbrev pub parts_of : Tree → Result (List Tree) LangFault
 parts_of t = parts_in (out-Tree t)
+
+-- whether a tree is some symbol
+abbrev pub is_symbol_in : List ℕ → Tree-F Tree → Bool
+is_symbol_in word (Tree-F.Atom at name) = bytes_eq name word
+is_symbol_in word (Tree-F.Number at width value) = false
+is_symbol_in word (Tree-F.List at parts close) = false
+
+abbrev pub is_symbol : List ℕ → Tree → Bool
+is_symbol word t = is_symbol_in word (out-Tree t)
+
+-- whether a tree is a list that begins with some symbol
+abbrev pub begin : List ℕ → List Tree → Bool
+begin word [] = false
+begin word (head ∷ ts) = is_symbol word head
+
+abbrev pub is_headed_in : List ℕ → Tree-F Tree → Bool
+is_headed_in word (Tree-F.Atom at name) = false
+is_headed_in word (Tree-F.Number at width value) = false
+is_headed_in word (Tree-F.List at parts close) = begin word parts
+
+abbrev pub is_headed : List ℕ → Tree → Bool
+is_headed word t = is_headed_in word (out-Tree t)
+
+-- what follows the symbol that a list has to begin with
+abbrev pub behind : Place → List ℕ → List Tree → Result (List Tree) LangFault
+behind at word [] = fails at Form
+behind at word (head ∷ ts) = if is_symbol word head then Ok ts else fails at Form
+
+abbrev pub behind_head : List ℕ → Tree → Result (List Tree) LangFault
+behind_head word t = parts_of t >>= λ ts. behind (place_of t) word ts
+
+-- how many trees at the front are lists that begin with some symbol
+abbrev pub headed_count : List ℕ → List Tree → ℕ
+headed_count word [] = 0
+headed_count word (t ∷ ts) = if is_headed word t then suc (headed_count word ts) else 0
+
+-- there must be no more trees
+abbrev pub no_more : List Tree → Result (Unit {0}) LangFault
+no_more [] = Ok tt
+no_more (t ∷ ts) = fails (place_of t) Form
+
+-- Things of a list are read from the first to the last. Each is read beside what those before it
+-- gave, to which its own reading is added.
+unfoldable pub each : {T A S : Type 0} → (S → T → Result A LangFault) → (S → A → S) → S → List T → Result S LangFault
+each read add before [] = Ok before
+each read add before (t ∷ ts) = read before t >>= λ x. each read add (add before x) ts

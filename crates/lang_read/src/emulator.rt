@@ -1,6 +1,6 @@
 //! Emulators: `(emulator (field x w n) .. (outputs (x e) ..) (tick (local x w) .. stmt ..))`, where
 //! each part may be left out.
-use crate::driver::{widths_of, zero_of};
+use crate::driver::widths_of;
 use crate::expression::{Typed, expr_of_width};
 use crate::fault::{LangFault, LangWhy, fault};
 use crate::fields::{field_names, fields_of};
@@ -16,6 +16,7 @@ use knox_lang::{
 };
 use knox_sexpr::Tree;
 use knox_text::Place;
+use knox_words::word_or;
 use sqlite_items::Items;
 use std::alloc::{AllocError, Global};
 
@@ -77,7 +78,7 @@ fn zero_outputs(alloc: Global, ports: &[Port]) -> Result<Outputs, AllocError> {
     let mut exprs = Items::new(alloc);
     let mut given = Items::new(alloc);
     for port in ports {
-        exprs.push(Expr::Lit(zero_of(port.width)))?;
+        exprs.push(Expr::Lit(word_or(port.width, 0)))?;
         given.push(false)?;
     }
     Ok(Outputs { exprs, given })

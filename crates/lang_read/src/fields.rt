@@ -1,9 +1,16 @@
 //! The fields of a specification or an emulator.
+ghost use Rattle.std.specs.Prelude.{◌≡◌, IfOk};
+ghost use Rattle.knox_lang.specs.declared.expr.Space.TheVariants.{Own};
+ghost use Rattle.lang_read.specs.Views.{Gives};
+ghost use Rattle.lang_read.specs.Names.{field_names};
+ghost use Rattle.lang_read.specs.Fields.{is_field, started, word_field, field_in, field, fields_of};
+
 use crate::fault::{LangFault, LangWhy, fault};
-use crate::names::Named;
+use crate::names::{Named, declare_fields};
 use crate::views::{number_of, parts_of, place_of, symbol_of, width_of};
-use knox_lang::{Field, Slot, Space};
+use knox_lang::{Field, Space};
 use knox_sexpr::Tree;
+use knox_text::Place;
 use knox_words::{Word, Words};
 use sqlite_items::Items;
 use std::alloc::{AllocError, Global};
@@ -18,7 +25,9 @@ pub(crate) struct Fields {
     pub(crate) init: Words,
 }
 
-fn is_field(name: &[u8], fields: &[Field]) -> bool {
+fn is_field(name: &[u8], fields: &[Field]) -> bool
+    ensures { result ≡ is_field name.now fields.now }
+{
     for field in fields {
         if field.name.as_slice() == name {
             return true;
@@ -27,23 +36,27 @@ fn is_field(name: &[u8], fields: &[Field]) -> bool {
     false
 }
 
-/// A field of one word, whose place is behind those of the fields before, and its initial word.
-fn word_field(
+/// A field of one word, whose place is behind those of the fields before, and its initial word,
+/// whose number is at the place.
+fn started(
     alloc: Global,
-    x: &Tree,
-    w: &Tree,
-    n: &Tree,
+    at: Place,
     known: &[Field],
-) -> Result<(Field, Word), LangFault> {
-    let name = symbol_of(x)?;
-    if is_field(name, known) {
-        return Err(fault(place_of(x), LangWhy::Twice));
-    }
-    let width = width_of(w)?;
-    let value = number_of(n)?;
-    let word = Word::new(width, value).ok_or(fault(place_of(n), LangWhy::Width))?;
+    name: &[u8],
+    width: u8,
+    value: u128,
+) -> Result<(Field, Word), LangFault>
+    ensures { Gives result (started at known.now name.now width value) }
+{
+    let word = match Word::new(width, value) {
+        Some(word) => word,
+        None => return Err(fault(at, LangWhy::Width)),
+    };
     let name = Items::from_slice(alloc, name)?;
-    let first = u32::try_from(known.len()).map_err(|_| LangFault::from(AllocError))?;
+    let first = match u32::try_from(known.len()) {
+        Ok(first) => first,
+        Err(_) => return Err(LangFault::from(AllocError)),
+    };
     let field = Field {
         name,
         width,
@@ -53,21 +66,57 @@ fn word_field(
     Ok((field, word))
 }
 
-/// `(field x w n)`.
-fn field(alloc: Global, tree: &Tree, known: &[Field]) -> Result<(Field, Word), LangFault> {
-    match parts_of(tree)? {
+/// The field of a name, a width and a number.
+fn word_field(
+    alloc: Global,
+    x: &Tree,
+    w: &Tree,
+    n: &Tree,
+    known: &[Field],
+) -> Result<(Field, Word), LangFault>
+    ensures { Gives result (word_field known.now x.now w.now n.now) }
+{
+    let name = symbol_of(x)?;
+    if is_field(name, known) {
+        return Err(fault(place_of(x), LangWhy::Twice));
+    }
+    let width = width_of(w)?;
+    let value = number_of(n)?;
+    started(alloc, place_of(n), known, name, width, value)
+}
+
+/// The parts of a field whose list is at the place.
+fn field_in(
+    alloc: Global,
+    at: Place,
+    known: &[Field],
+    parts: &[Tree],
+) -> Result<(Field, Word), LangFault>
+    ensures { Gives result (field_in at known.now parts.now) }
+{
+    match parts {
         [_, x, w, n] => {
             if known.len() >= MOST_WORDS {
-                return Err(fault(place_of(tree), LangWhy::Bound));
+                return Err(fault(at, LangWhy::Bound));
             }
             word_field(alloc, x, w, n, known)
         }
-        _ => Err(fault(place_of(tree), LangWhy::Form)),
+        _ => Err(fault(at, LangWhy::Form)),
     }
 }
 
+/// `(field x w n)`.
+fn field(alloc: Global, tree: &Tree, known: &[Field]) -> Result<(Field, Word), LangFault>
+    ensures { Gives result (field known.now tree.now) }
+{
+    let parts = parts_of(tree)?;
+    field_in(alloc, place_of(tree), known, parts)
+}
+
 /// The fields of trees, each of which begins with `field`.
-pub(crate) fn fields_of(alloc: Global, trees: &[Tree]) -> Result<Fields, LangFault> {
+pub(crate) fn fields_of(alloc: Global, trees: &[Tree]) -> Result<Fields, LangFault>
+    ensures { Gives result (fields_of trees.now) }
+{
     let mut fields = Items::new(alloc);
     let mut init = Words::new(alloc);
     for tree in trees {
@@ -79,16 +128,10 @@ pub(crate) fn fields_of(alloc: Global, trees: &[Tree]) -> Result<Fields, LangFau
 }
 
 /// The names of fields.
-pub(crate) fn field_names(alloc: Global, fields: &[Field]) -> Result<Items<Named>, AllocError> {
+pub(crate) fn field_names(alloc: Global, fields: &[Field]) -> Result<Items<Named>, AllocError>
+    ensures { IfOk result (λ names. names ≡ field_names Own fields.now) }
+{
     let mut names = Items::new(alloc);
-    for field in fields {
-        let name = Items::from_slice(alloc, field.name.as_slice())?;
-        let slot = Slot {
-            space: Space::Own,
-            number: field.first,
-        };
-        let width = field.width;
-        names.push(Named { name, slot, width })?;
-    }
+    declare_fields(alloc, Space::Own, fields, &mut names)?;
     Ok(names)
 }

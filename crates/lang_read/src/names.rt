@@ -1,12 +1,15 @@
 //! Names in scope, and lists of declared names.
-ghost use Rattle.std.specs.Prelude.{◌≡◌, None};
-ghost use Rattle.lang_read.specs.Names.{group_of, is_named, found};
+ghost use Rattle.std.specs.Prelude.{◌≡◌, ◌++◌, ◌∷◌, [], take, Some, None, OnOk};
+ghost use Rattle.knox_lang.specs.declared.expr.Space.TheVariants.{Device};
+ghost use Rattle.lang_read.specs.Views.{Gives};
+ghost use Rattle.lang_read.specs.Names.{group_of, is_named, found, target_in, target, op_number, is_declared, pair, argument_in, argument, arguments, local_in, local, locals, naming, numbered, field_names, by_name, line_names, port_names, cell_names, where_marked, marked_names};
 
 use crate::fault::{LangFault, LangWhy, fault};
 use crate::views::{parts_of, place_of, symbol_of, width_of};
 use knox_circuit::{Cell, Port};
 use knox_lang::{Field, OpHead, Slot, Space};
 use knox_sexpr::Tree;
+use knox_text::Place;
 use sqlite_items::Items;
 use std::alloc::{AllocError, Global};
 
@@ -87,20 +90,32 @@ pub(crate) fn find(group: Group, name: &[u8], names: &[Named]) -> Option<Seen>
     found
 }
 
+/// The word, where it is one that a statement may write: of a field or a local.
+fn target_in(at: Place, seen: Seen) -> Result<Seen, LangFault>
+    ensures { Gives result (target_in at seen seen.slot.space) }
+{
+    match seen.slot.space {
+        Space::Own => Ok(seen),
+        Space::Local => Ok(seen),
+        _ => Err(fault(at, LangWhy::UnknownName)),
+    }
+}
+
 /// The word that a tree names as the target of a statement: a field or a local.
-pub(crate) fn target(tree: &Tree, names: &[Named]) -> Result<Seen, LangFault> {
+pub(crate) fn target(tree: &Tree, names: &[Named]) -> Result<Seen, LangFault>
+    ensures { Gives result (target tree.now names.now) }
+{
     let name = symbol_of(tree)?;
     match find(Group::Plain, name, names) {
-        Some(seen) => match seen.slot.space {
-            Space::Own | Space::Local => Ok(seen),
-            _ => Err(fault(place_of(tree), LangWhy::UnknownName)),
-        },
+        Some(seen) => target_in(place_of(tree), seen),
         None => Err(fault(place_of(tree), LangWhy::UnknownName)),
     }
 }
 
 /// The number of the operation of a name.
-pub(crate) fn op_number(name: &[u8], ops: &[OpHead]) -> Option<usize> {
+pub(crate) fn op_number(name: &[u8], ops: &[OpHead]) -> Option<usize>
+    ensures { result ≡ op_number name.now ops.now }
+{
     for (number, op) in ops.iter().enumerate() {
         if op.name.as_slice() == name {
             return Some(number);
@@ -109,7 +124,9 @@ pub(crate) fn op_number(name: &[u8], ops: &[OpHead]) -> Option<usize> {
     None
 }
 
-fn is_declared(name: &[u8], pairs: &[(Items<u8>, u8)]) -> bool {
+fn is_declared(name: &[u8], pairs: &[(Items<u8>, u8)]) -> bool
+    ensures { result ≡ is_declared name.now pairs.now }
+{
     for pair in pairs {
         if pair.0.as_slice() == name {
             return true;
@@ -124,7 +141,9 @@ fn pair(
     x: &Tree,
     w: &Tree,
     known: &[(Items<u8>, u8)],
-) -> Result<(Items<u8>, u8), LangFault> {
+) -> Result<(Items<u8>, u8), LangFault>
+    ensures { Gives result (pair x.now w.now known.now) }
+{
     let name = symbol_of(x)?;
     if is_declared(name, known) {
         return Err(fault(place_of(x), LangWhy::Twice));
@@ -134,23 +153,37 @@ fn pair(
     Ok((name, width))
 }
 
+/// The parts of an argument whose list is at the place.
+fn argument_in(
+    alloc: Global,
+    at: Place,
+    known: &[(Items<u8>, u8)],
+    parts: &[Tree],
+) -> Result<(Items<u8>, u8), LangFault>
+    ensures { Gives result (argument_in at known.now parts.now) }
+{
+    match parts {
+        [x, w] => pair(alloc, x, w, known),
+        _ => Err(fault(at, LangWhy::Form)),
+    }
+}
+
 /// An argument `(x w)`.
 fn argument(
     alloc: Global,
     tree: &Tree,
     known: &[(Items<u8>, u8)],
-) -> Result<(Items<u8>, u8), LangFault> {
-    match parts_of(tree)? {
-        [x, w] => pair(alloc, x, w, known),
-        _ => Err(fault(place_of(tree), LangWhy::Form)),
-    }
+) -> Result<(Items<u8>, u8), LangFault>
+    ensures { Gives result (argument known.now tree.now) }
+{
+    let parts = parts_of(tree)?;
+    argument_in(alloc, place_of(tree), known, parts)
 }
 
 /// The arguments `(x w) ..`.
-pub(crate) fn arguments(
-    alloc: Global,
-    trees: &[Tree],
-) -> Result<Items<(Items<u8>, u8)>, LangFault> {
+pub(crate) fn arguments(alloc: Global, trees: &[Tree]) -> Result<Items<(Items<u8>, u8)>, LangFault>
+    ensures { Gives result (arguments trees.now) }
+{
     let mut pairs = Items::new(alloc);
     for tree in trees {
         let pair = argument(alloc, tree, pairs.as_slice())?;
@@ -159,20 +192,37 @@ pub(crate) fn arguments(
     Ok(pairs)
 }
 
+/// The parts of a local whose list is at the place.
+fn local_in(
+    alloc: Global,
+    at: Place,
+    known: &[(Items<u8>, u8)],
+    parts: &[Tree],
+) -> Result<(Items<u8>, u8), LangFault>
+    ensures { Gives result (local_in at known.now parts.now) }
+{
+    match parts {
+        [_, x, w] => pair(alloc, x, w, known),
+        _ => Err(fault(at, LangWhy::Form)),
+    }
+}
+
 /// A local `(local x w)`.
 fn local(
     alloc: Global,
     tree: &Tree,
     known: &[(Items<u8>, u8)],
-) -> Result<(Items<u8>, u8), LangFault> {
-    match parts_of(tree)? {
-        [_, x, w] => pair(alloc, x, w, known),
-        _ => Err(fault(place_of(tree), LangWhy::Form)),
-    }
+) -> Result<(Items<u8>, u8), LangFault>
+    ensures { Gives result (local known.now tree.now) }
+{
+    let parts = parts_of(tree)?;
+    local_in(alloc, place_of(tree), known, parts)
 }
 
 /// The locals of a body, each of which begins with `local`.
-pub(crate) fn locals(alloc: Global, trees: &[Tree]) -> Result<Items<(Items<u8>, u8)>, LangFault> {
+pub(crate) fn locals(alloc: Global, trees: &[Tree]) -> Result<Items<(Items<u8>, u8)>, LangFault>
+    ensures { Gives result (locals trees.now) }
+{
     let mut pairs = Items::new(alloc);
     for tree in trees {
         let pair = local(alloc, tree, pairs.as_slice())?;
@@ -187,7 +237,9 @@ fn declare_one(
     slot: Slot,
     width: u8,
     names: &mut Items<Named>,
-) -> Result<(), AllocError> {
+) -> Result<(), AllocError>
+    ensures { OnOk result (names.new ≡ names.old ++ naming name.now slot width ∷ []) }
+{
     let name = Items::from_slice(alloc, name)?;
     names.push(Named { name, slot, width })
 }
@@ -198,7 +250,9 @@ pub(crate) fn declare(
     space: Space,
     pairs: &[(Items<u8>, u8)],
     names: &mut Items<Named>,
-) -> Result<(), AllocError> {
+) -> Result<(), AllocError>
+    ensures { OnOk result (names.new ≡ names.old ++ numbered space 0 pairs.now) }
+{
     let mut number: u32 = 0;
     for pair in pairs {
         let slot = Slot { space, number };
@@ -209,9 +263,27 @@ pub(crate) fn declare(
 }
 
 /// Takes the names behind the first ones out of scope.
-pub(crate) fn forget(names: &mut Items<Named>, first: usize) {
+pub(crate) fn forget(names: &mut Items<Named>, first: usize)
+    ensures { names.new ≡ take first names.old }
+{
     while names.len() > first {
         let _last = names.pop();
+    }
+}
+
+/// Brings a name into scope, if it isn't empty.
+fn by_name(
+    alloc: Global,
+    name: &[u8],
+    slot: Slot,
+    width: u8,
+    names: &mut Items<Named>,
+) -> Result<(), AllocError>
+    ensures { OnOk result (names.new ≡ names.old ++ by_name name.now slot width) }
+{
+    match name {
+        [] => Ok(()),
+        [..] => declare_one(alloc, name, slot, width, names),
     }
 }
 
@@ -223,10 +295,10 @@ fn declare_line(
     slot: Slot,
     width: u8,
     names: &mut Items<Named>,
-) -> Result<(), AllocError> {
-    if !name.is_empty() {
-        declare_one(alloc, name, slot, width, names)?;
-    }
+) -> Result<(), AllocError>
+    ensures { OnOk result (names.new ≡ names.old ++ line_names name.now number slot width) }
+{
+    by_name(alloc, name, slot, width, names)?;
     let name = format!(in alloc; "@{number}")?;
     declare_one(alloc, name.as_bytes(), slot, width, names)
 }
@@ -237,7 +309,9 @@ pub(crate) fn declare_ports(
     space: Space,
     ports: &[Port],
     names: &mut Items<Named>,
-) -> Result<(), AllocError> {
+) -> Result<(), AllocError>
+    ensures { OnOk result (names.new ≡ names.old ++ port_names space 0 ports.now) }
+{
     let mut number: u32 = 0;
     for port in ports {
         let slot = Slot { space, number };
@@ -260,7 +334,9 @@ pub fn declare_fields(
     space: Space,
     fields: &[Field],
     names: &mut Items<Named>,
-) -> Result<(), AllocError> {
+) -> Result<(), AllocError>
+    ensures { OnOk result (names.new ≡ names.old ++ field_names space fields.now) }
+{
     for field in fields {
         let slot = Slot {
             space,
@@ -271,21 +347,45 @@ pub fn declare_fields(
     Ok(())
 }
 
+/// Brings a cell into scope where it is marked, by its first word.
+fn declare_where(
+    alloc: Global,
+    marked: bool,
+    cell: &Cell,
+    names: &mut Items<Named>,
+) -> Result<(), AllocError>
+    ensures { OnOk result (names.new ≡ names.old ++ where_marked marked cell.now) }
+{
+    if !marked {
+        return Ok(());
+    }
+    let slot = Slot {
+        space: Space::Device,
+        number: cell.first,
+    };
+    let name = cell.name.as_slice();
+    declare_line(alloc, name, cell.number, slot, cell.width, names)
+}
+
 /// Brings those cells into scope that are marked, by their first words.
 pub fn declare_marked(
     alloc: Global,
     cells: &[Cell],
     marks: &[bool],
     names: &mut Items<Named>,
-) -> Result<(), AllocError> {
-    for (cell, marked) in cells.iter().zip(marks.iter()) {
-        if *marked {
-            let slot = Slot {
-                space: Space::Device,
-                number: cell.first,
-            };
-            let name = cell.name.as_slice();
-            declare_line(alloc, name, cell.number, slot, cell.width, names)?;
+) -> Result<(), AllocError>
+    ensures { OnOk result (names.new ≡ names.old ++ marked_names cells.now marks.now) }
+{
+    let mut left = cells;
+    let mut right = marks;
+    while let Some((cell, more)) = left.split_first() {
+        match right.split_first() {
+            Some((marked, others)) => {
+                declare_where(alloc, *marked, cell, names)?;
+                left = more;
+                right = others;
+            }
+            None => return Ok(()),
         }
     }
     Ok(())
@@ -296,7 +396,9 @@ pub(crate) fn declare_cells(
     alloc: Global,
     cells: &[Cell],
     names: &mut Items<Named>,
-) -> Result<(), AllocError> {
+) -> Result<(), AllocError>
+    ensures { OnOk result (names.new ≡ names.old ++ cell_names 0 cells.now) }
+{
     let mut number: u32 = 0;
     for cell in cells {
         let slot = Slot {

@@ -1,6 +1,6 @@
 //! What a tree is at its top.
 ghost use Rattle.std.specs.Prelude.{◌≡◌, ◌≤◌, length};
-ghost use Rattle.lang_read.specs.Views.{place_of, number_of, is_width, width_of, symbol_of, parts_of, Gives, Sees};
+ghost use Rattle.lang_read.specs.Views.{place_of, number_of, is_width, width_of, symbol_of, parts_of, is_symbol, begin, is_headed, behind, behind_head, headed_count, no_more, Gives, Sees};
 
 use crate::fault::{LangFault, LangWhy, fault};
 use knox_sexpr::Tree;
@@ -71,41 +71,59 @@ pub fn parts_of(tree: &Tree) -> Result<&[Tree], LangFault>
     }
 }
 
-fn is_symbol(tree: &Tree, word: &[u8]) -> bool {
+fn is_symbol(tree: &Tree, word: &[u8]) -> bool
+    ensures { result ≡ is_symbol word.now tree.now }
+{
     match tree {
         Tree::Atom(_, name) => name.as_slice() == word,
-        _ => false,
+        Tree::Number(_, _, _) => false,
+        Tree::List(_, _, _) => false,
+    }
+}
+
+/// Do trees begin with this word?
+fn begin(trees: &[Tree], word: &[u8]) -> bool
+    ensures { result ≡ begin word.now trees.now }
+{
+    match trees.split_first() {
+        Some((head, _)) => is_symbol(head, word),
+        None => false,
     }
 }
 
 /// Is the tree a list that begins with this word?
-pub fn is_headed(tree: &Tree, word: &[u8]) -> bool {
+pub fn is_headed(tree: &Tree, word: &[u8]) -> bool
+    ensures { result ≡ is_headed word.now tree.now }
+{
     match tree {
-        Tree::List(_, parts, _) => match parts.as_slice() {
-            [head, ..] => is_symbol(head, word),
-            [] => false,
-        },
-        _ => false,
+        Tree::Atom(_, _) => false,
+        Tree::Number(_, _, _) => false,
+        Tree::List(_, parts, _) => begin(parts.as_slice(), word),
+    }
+}
+
+/// What follows the word that the list at the place has to begin with.
+fn behind<'a>(at: Place, trees: &'a [Tree], word: &[u8]) -> Result<&'a [Tree], LangFault>
+    ensures { Sees (λ x. x.now) result (behind at word.now trees.now) }
+{
+    match trees.split_first() {
+        Some((head, rest)) if is_symbol(head, word) => Ok(rest),
+        _ => Err(fault(at, LangWhy::Form)),
     }
 }
 
 /// What follows the word that a list has to begin with.
-pub fn behind_head<'a>(tree: &'a Tree, word: &[u8]) -> Result<&'a [Tree], LangFault> {
-    match parts_of(tree)? {
-        [head, rest @ ..] => {
-            if is_symbol(head, word) {
-                Ok(rest)
-            } else {
-                Err(fault(place_of(tree), LangWhy::Form))
-            }
-        }
-        [] => Err(fault(place_of(tree), LangWhy::Form)),
-    }
+pub fn behind_head<'a>(tree: &'a Tree, word: &[u8]) -> Result<&'a [Tree], LangFault>
+    ensures { Sees (λ x. x.now) result (behind_head word.now tree.now) }
+{
+    let parts = parts_of(tree)?;
+    behind(place_of(tree), parts, word)
 }
 
 /// How many trees at the front are lists that begin with this word.
 pub(crate) fn headed_count(trees: &[Tree], word: &[u8]) -> usize
-    ensures { result ≤ length trees.now }
+    ensures count { result ≡ headed_count word.now trees.now }
+    ensures within { result ≤ length trees.now }
 {
     for (count, tree) in trees.iter().enumerate() {
         if !is_headed(tree, word) {
@@ -132,9 +150,11 @@ pub(crate) fn behind_first(trees: &[Tree]) -> &[Tree] {
 }
 
 /// Refuses a tree where there must be none.
-pub(crate) fn no_more(trees: &[Tree]) -> Result<(), LangFault> {
-    match trees {
-        [] => Ok(()),
-        [tree, ..] => Err(fault(place_of(tree), LangWhy::Form)),
+pub(crate) fn no_more(trees: &[Tree]) -> Result<(), LangFault>
+    ensures { Gives result (no_more trees.now) }
+{
+    match trees.split_first() {
+        Some((tree, _)) => Err(fault(place_of(tree), LangWhy::Form)),
+        None => Ok(()),
     }
 }
