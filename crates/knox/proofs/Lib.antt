@@ -4,3 +4,5 @@ pub mod FiveTexts
 pub mod Written
 pub mod Verified
 pub mod Explained
+pub mod Deciding
+pub mod Agreed

@@ -1,6 +1,8 @@
 pub mod Commands
 pub mod Reading
 pub mod Faults
+pub mod Judgements
+pub mod Meanings
 pub mod Verdicts
 pub mod Lines
 pub mod Outcomes

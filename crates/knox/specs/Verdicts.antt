@@ -10,6 +10,9 @@ use Rattle.knox.specs.declared.verdict.Verdict.{Verdict}
 use Rattle.knox.specs.declared.verdict.Verdict.TheVariants.{Yes, Undecided, TooWide}
 use Rattle.knox.specs.declared.verdict.VerifyFault.{VerifyFault}
 use Rattle.knox.specs.declared.verdict.VerifyFault.TheVariants.{Text}
+use Rattle.knox_theory.specs.Closed.{Closed}
+use Rattle.knox.specs.Judgements.{Parts, design, hints, Agrees, Undecides, IsTooWide}
+use Rattle.knox.specs.Meanings.{Means}
 
 -- the text with this letter
 abbrev pub lettered : Letter → Bytes → Bytes → Bytes → Bytes → Bytes → Bytes
@@ -24,10 +27,23 @@ abbrev pub RefusesLongTexts : Bytes → Bytes → Bytes → Bytes → Bytes → 
 RefusesLongTexts c s d e h (Err (Text letter why)) = limit < length (lettered letter c s d e h)
 RefusesLongTexts c s d e h r = Unit {0}
 
--- What a verdict says of the five texts: nothing is claimed yet. The texts are those that a shelf
--- gave, so that what will be claimed is claimed of them.
-abbrev pub Judges : Verdict → Bytes → Bytes → Bytes → Bytes → Bytes → Type 0
-Judges v c s d e h = Unit {0}
+-- what a verdict says of parts
+abbrev pub JudgesParts : Verdict → Parts → Type 0
+JudgesParts Yes p = Agrees p
+JudgesParts (Undecided hint choices) p = Undecides p hint.0 choices.words
+JudgesParts (TooWide hint bits) p = IsTooWide p hint.0 bits
+
+-- what deciding a script says: of a yes, that no choices falsify a hint
+abbrev pub Decided : Verdict → Parts → Type 0
+Decided Yes p = Closed (design p) (hints p)
+Decided (Undecided hint choices) p = Undecides p hint.0 choices.words
+Decided (TooWide hint bits) p = IsTooWide p hint.0 bits
+
+-- What a verdict says of the five texts, those that a shelf gave: it says it of parts that the texts mean.
+pub record Judges (v : Verdict) (c s d e h : Bytes) : Type 0 where
+  pub parts : Parts
+  pub meant : Means c s d e h parts
+  pub judged : JudgesParts v parts
 
 -- the same of a list of five texts
 abbrev pub JudgesTexts : Verdict → List Bytes → Type 0

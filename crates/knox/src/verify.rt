@@ -1,6 +1,11 @@
 //! The verifier: five texts get their meaning, and then the script is decided segment by segment.
-ghost use Rattle.std.specs.Prelude.{◌≤◌, length, IfOk, IfErr};
-ghost use Rattle.knox.specs.Verdicts.{RefusesLongTexts, Judges};
+ghost use Rattle.std.specs.Prelude.{◌≡◌, ◌≤◌, length, true, Some, IfOk, IfErr};
+ghost use Rattle.knox_theory.specs.Closed.{StartsRefined};
+ghost use Rattle.btor_read.specs.Grammar.{circuit_of};
+ghost use Rattle.emu_machine.specs.Fits.{fits_device};
+ghost use Rattle.script_core.specs.Hints.{script_fits};
+ghost use Rattle.knox.specs.Verdicts.{RefusesLongTexts, Judges, Decided};
+ghost use Rattle.knox.specs.Judgements.{parts_of, design, hints};
 ghost use Rattle.knox.specs.Faults.{IsNoText};
 
 use crate::verdict::{Letter, TextWhy, Verdict, VerifyFault};
@@ -57,7 +62,9 @@ pub(crate) fn device_of(
     requires s { length s.now ≤ 67108864 }
     requires d { length d.now ≤ 67108864 }
     requires e { length e.now ≤ 67108864 }
-    ensures { IfErr result IsNoText }
+    ensures circuit { IfOk result (λ dev. circuit_of c.now ≡ Some dev.circuit) }
+    ensures fit { IfOk result (λ dev. fits_device dev.circuit dev.spec dev.driver dev.emulator ≡ true) }
+    ensures fault { IfErr result IsNoText }
 {
     let circuit = btor_read::read_circuit(alloc, c)?;
     let text = parse(alloc, s)?;
@@ -82,7 +89,9 @@ pub(crate) fn device_of(
 /// The script that a text means for a device.
 fn script_of(alloc: Global, dev: &Device, h: &[u8]) -> Result<Script, VerifyFault>
     requires { length h.now ≤ 67108864 }
-    ensures { IfErr result IsNoText }
+    ensures fits { IfOk result (λ script. script_fits script ≡ true) }
+    ensures starts { IfOk result (λ script. StartsRefined (design (parts_of dev.now script)) (hints (parts_of dev.now script))) }
+    ensures fault { IfErr result IsNoText }
 {
     let text = parse(alloc, h)?;
     let script = script_read::read_script(alloc, text.trees.as_slice(), text.end, dev)?;
@@ -95,7 +104,8 @@ fn script_of(alloc: Global, dev: &Device, h: &[u8]) -> Result<Script, VerifyFaul
 
 /// Decides a script, segment after segment. The first one that is falsified or too wide decides.
 fn decide(alloc: Global, dev: &Device, sc: &Script) -> Result<Verdict, VerifyFault>
-    ensures { IfErr result IsNoText }
+    ensures decided { IfOk result (λ v. Decided v (parts_of dev.now sc.now)) }
+    ensures fault { IfErr result IsNoText }
 {
     for g in 0..sc.segments() {
         match check(alloc, dev, sc, SegmentNo(g))? {
@@ -121,11 +131,16 @@ fn verify_short(
     requires d { length d.now ≤ 67108864 }
     requires e { length e.now ≤ 67108864 }
     requires h { length h.now ≤ 67108864 }
-    ensures { IfErr result IsNoText }
+    ensures judged { IfOk result (λ v. Judges v c.now s.now d.now e.now h.now) }
+    ensures fault { IfErr result IsNoText }
 {
     let dev = device_of(alloc, c, s, d, e)?;
     let script = script_of(alloc, &dev, h)?;
-    decide(alloc, &dev, &script)
+    emu_machine::devices_are_designs(&dev);
+    script_core::scripts_are_formed(&script);
+    knox_theory::closed_implies_agreement_on_wires::<()>();
+    let verdict = decide(alloc, &dev, &script)?;
+    Ok(verdict)
 }
 
 /// The verdict on a circuit, a specification, a driver, an emulator and a hint text. The budget of

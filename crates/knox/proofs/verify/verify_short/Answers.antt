@@ -1,0 +1,14 @@
+use Rattle.knox.specs.Judgements.{parts_of}
+use Rattle.knox.proofs.Agreed.{judged-parts}
+use Rattle.knox.proofs.verify.verify_short.Goals as goal
+
+pub returns-clause-judged : goal.returns-clause-judged
+returns-clause-judged c =
+    let dev = c.in_ok-dev.dev in
+    let p = parts_of dev c.in_ok-script.script in
+    record {
+      parts = p;
+      meant = record { circuit = c.in_ok-dev.ensures.circuit; fit = c.in_ok-dev.ensures.fit; script = c.in_ok-script.ensures.fits };
+      judged = judged-parts c.in_ok-verdict.verdict p c.closed_implies_agreement_on_wires.ensures c.devices_are_designs.ensures
+          (c.scripts_are_formed.ensures.script dev.circuit dev.spec dev.driver dev.emulator) c.in_ok-script.ensures.starts c.in_ok-verdict.ensures.decided;
+    }

@@ -1,0 +1,62 @@
+-- What a verdict says of five texts: of the device that they mean, and of the script of hints.
+-- The project's own. What a yes says is `Judges Yes`: with the meaning of the texts, it is what everybody must believe.
+use Rattle.std.specs.Prelude.{◌≡◌, ℕ, ◌<◌, List}
+use Rattle.knox_words.specs.Lists.{Words}
+use Rattle.knox_theory.specs.Device.{Device}
+use Rattle.knox_theory.specs.Agreement.{AgreeOnWires}
+use Rattle.knox_theory.specs.Design.{Design}
+use Rattle.knox_theory.specs.Script.{Script}
+use Rattle.knox_theory.specs.Segments.{Segment, segments}
+use Rattle.knox_theory.specs.Closed.{Closed, ClosedBelow, Falsifies, IsAmong, StartsRefined}
+use Rattle.knox_circuit.specs.Circuit.{Circuit}
+use Rattle.knox_lang.specs.declared.parts.SpecParts.{SpecParts}
+use Rattle.knox_lang.specs.declared.parts.DriverParts.{DriverParts}
+use Rattle.knox_lang.specs.declared.parts.EmuParts.{EmuParts}
+use Rattle.emu_machine.specs.declared.device.Device.{Device as Machine}
+use Rattle.emu_machine.specs.Meaning.{device_of, design_of}
+use Rattle.script_core.specs.declared.parts.ScriptParts.{ScriptParts}
+use Rattle.script_core.specs.Hints.{script_of}
+use Rattle.script_core.specs.Runs.{counted}
+
+-- a circuit, three programs and a script of hints
+pub record Parts : Type 0 where
+  pub circuit : Circuit
+  pub spec : SpecParts
+  pub driver : DriverParts
+  pub emulator : EmuParts
+  pub script : ScriptParts
+
+-- those of a device and a script
+abbrev pub parts_of : Machine → ScriptParts → Parts
+parts_of dev script = record { circuit = dev.circuit; spec = dev.spec; driver = dev.driver; emulator = dev.emulator; script = script }
+
+-- the device that they are, its design, and the script for it
+abbrev pub device : Parts → Device
+device p = device_of p.circuit p.spec p.driver p.emulator
+
+abbrev pub design : Parts → Design (Unit {0})
+design p = design_of p.circuit p.spec p.driver p.emulator
+
+abbrev pub hints : Parts → Script (Unit {0})
+hints p = script_of p.circuit p.spec p.driver p.script
+
+-- No choices falsify a hint of the script, and `refine` holds as the device leaves the factory; so the worlds agree on every list of events without a
+-- host: on power-cycles at any moment, inputs that are set, outputs that are read and ticks.
+pub record Agrees (p : Parts) : Type 0 where
+  pub closed : Closed (design p) (hints p)
+  pub starts : StartsRefined (design p) (hints p)
+  pub agree : AgreeOnWires (device p)
+
+-- these choices falsify a hint, and none falsify a hint of a segment before that one
+pub record Undecides (p : Parts) (hint : ℕ) (choices : Words) : Type 0 where
+  pub falsified : Falsifies (design p) (hints p) hint choices
+  pub below : ClosedBelow (design p) (hints p) falsified.segment.hint
+
+-- the segment of a section or cut takes more than 20 bits, and no choices falsify a hint of a segment before it
+pub record IsTooWide (p : Parts) (hint bits : ℕ) : Type 0 where
+  pub segment : Segment
+  pub listed : IsAmong segment (segments (design p) (hints p))
+  pub named : hint ≡ segment.hint
+  pub counts : bits ≡ counted segment.choice_bits
+  pub wide : 20 < bits
+  pub below : ClosedBelow (design p) (hints p) segment.hint
