@@ -139,13 +139,13 @@ fit-together c s d e h =
     let emulator : fits_emulator c e ≡ true = and_second _ (fits_emulator c e) h in
     let ports : words_fit (inputs c) d.idle && have_widths d.outs (outputs c) ≡ true = and_first _ (length d.keep == length (cells_of c.lines)) circuit in
     let heads : _ && same_heads e.ops s.ops ≡ true = and_first _ (length s.funs == 0) (and_first _ (length d.funs == 0) (and_first _ (length e.funs == 0) spec)) in
-    let wires : have_widths e.ins (inputs c) && have_widths e.outs (outputs c) ≡ true = and_first _ (length e.outputs == length (outputs c)) (and_first _ (not e.copy) emulator) in
+    let wires : have_widths e.ins (inputs c) && have_widths e.outs (outputs c) ≡ true = and_first _ (length e.outputs == length (outputs c)) (and_first _ (not e.copy) (and_first _ (length e.power.stmts == 0) emulator)) in
     record {
       idle = and_first (words_fit (inputs c) d.idle) (have_widths d.outs (outputs c)) ports;
       keep = eqb-true (length d.keep) (length (cells_of c.lines)) (and_second _ (length d.keep == length (cells_of c.lines)) circuit);
       same = and_second _ (same_heads e.ops s.ops) heads;
       ins = and_first (have_widths e.ins (inputs c)) (have_widths e.outs (outputs c)) wires;
-      alone = not-true e.copy (and_second _ (not e.copy) emulator);
+      alone = not-true e.copy (and_second _ (not e.copy) (and_first _ (length e.power.stmts == 0) emulator));
     }
 
 pub parts-make-design : (c : Circuit) (s : SpecParts) (d : DriverParts) (e : EmuParts) → (length d.keep ≡ length (cells_of c.lines) → CircuitLaws c d.keep) →

@@ -66,9 +66,11 @@ abbrev pub fits_specification : SpecParts → DriverParts → EmuParts → Bool
 fits_specification s d e = drives d.ops s.ops && same_heads e.ops s.ops && length s.funs == 0 && length d.funs == 0 && length e.funs == 0
 
 -- an emulator of a circuit: it knows the widths of inputs and outputs, and has an expression for
--- each output. It has no copy of the circuit yet
+-- each output. It has no copy of the circuit and does nothing at power-on yet
 abbrev pub fits_emulator : Circuit → EmuParts → Bool
-fits_emulator c e = have_widths e.ins (inputs c) && have_widths e.outs (outputs c) && length e.outputs == length (outputs c) && not e.copy
+fits_emulator c e =
+    have_widths e.ins (inputs c) && have_widths e.outs (outputs c) && length e.outputs == length (outputs c) && not e.copy
+    && length e.power.stmts == 0
 
 -- the parts of a device
 unfoldable pub fits_device : Circuit → SpecParts → DriverParts → EmuParts → Bool

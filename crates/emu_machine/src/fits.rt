@@ -127,7 +127,8 @@ fn fits_specification(s: &SpecParts, d: &DriverParts, e: &EmuParts) -> bool
         && e.funs.is_empty()
 }
 
-/// Whether an emulator is one of this circuit, without a copy of it.
+/// Whether an emulator is one of this circuit, without a copy of it and with nothing to do at
+/// power-on.
 fn fits_emulator(c: &Circuit, e: &EmuParts) -> bool
     ensures { result ≡ fits_emulator c.now e.now }
 {
@@ -135,6 +136,7 @@ fn fits_emulator(c: &Circuit, e: &EmuParts) -> bool
         && have_widths(e.outs.as_slice(), c.outputs_list())
         && e.outputs.len() == c.outputs_list().len()
         && !e.copy
+        && e.power.stmts.is_empty()
 }
 
 /// Whether the parts of a device fit each other.

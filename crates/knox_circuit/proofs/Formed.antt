@@ -18,7 +18,8 @@ use Rattle.knox_circuit.specs.declared.line.Shape.{Shape}
 use Rattle.knox_circuit.specs.declared.line.Shape.TheVariants as shape
 use Rattle.knox_circuit.specs.declared.circuit.Cell.{Cell}
 use Rattle.knox_circuit.specs.Sorts.{earlier, decimal, shape_of, words_width, sort_width, sort_index, indices_width, input_sort, state_sort, output_operand}
-use Rattle.knox_circuit.specs.Ports.{name_of, number_of, node_width, input_port, inputs_of, output_port, outputs_of, output_operands, one_or_none}
+use Rattle.knox_circuit.specs.declared.naming.Kind.TheVariants as kind
+use Rattle.knox_circuit.specs.Ports.{name_among, number_of, node_width, input_port, inputs_of, output_port, outputs_of, output_operands, one_or_none}
 use Rattle.knox_circuit.specs.States.{next_of, size, words_in, if_some, state_cell, cell_among, cells_among}
 use Rattle.knox_circuit.specs.Form.{all_digits, are_digits, constant_fits, last_number, is_shape, is_line, is_width, plain_width, IsInForm}
 use Rattle.knox_circuit.specs.Resolved.{arg_of, output_args}
@@ -229,7 +230,7 @@ decimal_form before s ds f =
     let same : digits_value 10 ds ≡ min (digits_value 10 ds) 4294967296 = omega arith in
     digits-plain w ds (and-right _ _ f) ∙ ap (word_or w) same
 
-pub cell-is : (before : List Line) (l : Line) (s first width : ℕ) (name : List ℕ) → name ≡ name_of l.symbol → width ≡ sort_width before s → sort_index before s ≡ None → record { name = name; number = l.number; width = width; index = None; first = first } ≡ state_cell before l s first
+pub cell-is : (before : List Line) (l : Line) (s first width : ℕ) (name : List ℕ) → name ≡ name_among kind.State before l.symbol → width ≡ sort_width before s → sort_index before s ≡ None → record { name = name; number = l.number; width = width; index = None; first = first } ≡ state_cell before l s first
 cell-is before l s first width name e f h = rw (e, f, h) refl
 
 pub form-push : (lines : List Line) (l : Line) → IsInForm (reverse lines) → IsTrue (is_line (reverse lines) l) → IsInForm (reverse (lines ++ l ∷ []))

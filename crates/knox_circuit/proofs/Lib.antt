@@ -11,3 +11,4 @@ pub mod Fitting
 pub mod Celled
 pub mod Sound
 pub mod Persisting
+pub mod Named

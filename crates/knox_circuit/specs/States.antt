@@ -3,7 +3,8 @@ use Rattle.std.specs.Prelude.{ℕ, ◌^◌, ◌==◌, ℤ, pos, negsuc, List, []
 use Rattle.knox_circuit.specs.declared.line.Line.{Line}
 use Rattle.knox_circuit.specs.declared.circuit.Cell.{Cell}
 use Rattle.knox_circuit.specs.Sorts.{sort_width, sort_index, state_sort, next_pair, init_pair}
-use Rattle.knox_circuit.specs.Ports.{name_of}
+use Rattle.knox_circuit.specs.declared.naming.Kind.TheVariants as kind
+use Rattle.knox_circuit.specs.Ports.{name_among}
 
 -- whether an operand is a node's number
 abbrev pub names : ℤ → ℕ → Bool
@@ -35,7 +36,7 @@ words_in cells = sum_by (λ c. size c.index) cells
 
 abbrev pub state_cell : List Line → Line → ℕ → ℕ → Cell
 state_cell before l s first = record {
-  name = name_of l.symbol;
+  name = name_among kind.State before l.symbol;
   number = l.number;
   width = sort_width before s;
   index = sort_index before s;

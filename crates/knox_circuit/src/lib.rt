@@ -12,6 +12,7 @@ mod form;
 mod laws;
 mod line;
 mod look;
+mod naming;
 mod node;
 mod power;
 mod table;

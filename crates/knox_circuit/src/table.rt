@@ -3,13 +3,14 @@ ghost use Rattle.std.specs.Prelude.{◌≡◌, ◌≤◌, ◌<◌, ◌+◌, ◌+
 ghost use Rattle.std.specs.List.{list_all};
 ghost use Rattle.knox_words.specs.Bits.{word_or};
 ghost use Rattle.knox_circuit.specs.Sorts.{earlier, literal, input_sort, state_sort, output_operand};
-ghost use Rattle.knox_circuit.specs.Ports.{name_of, port, input_port, inputs_of, output_port, outputs_of, output_operands, one_or_none};
+ghost use Rattle.knox_circuit.specs.Ports.{port, input_port, inputs_of, output_port, outputs_of, output_operands, one_or_none};
 ghost use Rattle.knox_circuit.specs.States.{first_of, next_of, cell_among, cells_among, bare_among, bares_among, state_among, states_among, state_cell, words_in};
 ghost use Rattle.knox_circuit.specs.Resolved.{place_of, arg_of, arg_or_zero, state_node, operator_node, node_of, nodes_of, output_args, next_args, first_word, literal_of, literal_operand};
 ghost use Rattle.knox_circuit.specs.Form.{IsInForm, is_shape, is_line};
 
 use crate::circuit::{Cell, Port};
 use crate::line::{Line, Shape};
+use crate::naming::{self, Kind};
 use crate::node::{Arg, Node};
 use crate::{form, look};
 use knox_words::{Word, Words};
@@ -32,20 +33,18 @@ pub struct Tables {
     pub state_widths: Items<u8>,
 }
 
-/// The name that a symbol gives.
-fn name_of(alloc: Global, symbol: &[u8]) -> Result<Items<u8>, AllocError>
-    ensures { IfOk result (λ n. n ≡ name_of symbol.now) }
+fn port(
+    alloc: Global,
+    lines: &[Line],
+    at: usize,
+    kind: Kind,
+    line: &Line,
+    width: u8,
+) -> Result<Port, AllocError>
+    requires { at ≤ length lines.now }
+    ensures { IfOk result (λ p. p ≡ port kind (earlier lines.now at) line.now width) }
 {
-    match symbol {
-        [first, ..] if *first == 64 => Ok(Items::new(alloc)),
-        _ => Items::from_slice(alloc, symbol),
-    }
-}
-
-fn port(alloc: Global, line: &Line, width: u8) -> Result<Port, AllocError>
-    ensures { IfOk result (λ p. p ≡ port line.now width) }
-{
-    let name = name_of(alloc, line.symbol.as_slice())?;
+    let name = naming::name_at(alloc, lines, at, kind, line)?;
     Ok(Port {
         name,
         number: line.number,
@@ -67,7 +66,7 @@ fn add_input(
 {
     if let Some(sort) = look::input_sort(&line.shape) {
         let width = look::sort_width(lines, at, sort) as u8;
-        ports.push(port(alloc, line, width)?)?;
+        ports.push(port(alloc, lines, at, Kind::Input, line, width)?)?;
     }
     Ok(())
 }
@@ -99,7 +98,7 @@ fn add_output(
 {
     if let Some(operand) = look::output_operand(&line.shape) {
         let width = look::node_width(lines, at, look::number_of(operand)) as u8;
-        ports.push(port(alloc, line, width)?)?;
+        ports.push(port(alloc, lines, at, Kind::Output, line, width)?)?;
     }
     Ok(())
 }
@@ -195,7 +194,7 @@ fn state_cell(
     ensures { IfOk result (λ c. c ≡ state_cell (earlier lines.now at) line.now sort first) }
 {
     let width = look::sort_width(lines, at, sort) as u8;
-    let name = name_of(alloc, line.symbol.as_slice())?;
+    let name = naming::name_at(alloc, lines, at, Kind::State, line)?;
     Ok(Cell {
         name,
         number: line.number,
