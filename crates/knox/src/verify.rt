@@ -1,15 +1,19 @@
 //! The verifier: five texts get their meaning, and then the script is decided segment by segment.
 ghost use Rattle.std.specs.Prelude.{◌≡◌, ◌≤◌, length, true, Some, IfOk, IfErr};
 ghost use Rattle.knox_theory.specs.Closed.{StartsRefined};
+ghost use Rattle.knox_sexpr.specs.Grammar.{Means};
 ghost use Rattle.btor_read.specs.Grammar.{circuit_of};
 ghost use Rattle.emu_machine.specs.Fits.{fits_device};
 ghost use Rattle.script_core.specs.Hints.{script_fits};
 ghost use Rattle.knox.specs.Verdicts.{RefusesLongTexts, Judges, Decided};
 ghost use Rattle.knox.specs.Judgements.{parts_of, design, hints};
+ghost use Rattle.knox.specs.Meanings.{MeansDriver};
 ghost use Rattle.knox.specs.Faults.{IsNoText};
 
 use crate::verdict::{Letter, TextWhy, Verdict, VerifyFault};
 use emu_machine::Device;
+use knox_circuit::Circuit;
+use knox_lang::{DriverProgram, SpecProgram};
 use knox_sexpr::Tree;
 use knox_text::{Cursor, Place};
 use script_core::{Checked, Script, SegmentNo, check, starts_refined};
@@ -41,13 +45,30 @@ fn end_of(text: &[u8]) -> Place
 
 fn parse(alloc: Global, text: &[u8]) -> Result<Parsed, VerifyFault>
     requires { length text.now ≤ 67108864 }
-    ensures { IfErr result IsNoText }
+    ensures trees { IfOk result (λ p. Means text.now p.trees) }
+    ensures fault { IfErr result IsNoText }
 {
     let trees = knox_sexpr::read(alloc, text)?;
     Ok(Parsed {
         trees,
         end: end_of(text),
     })
+}
+
+/// The driver that a text means for a circuit.
+fn driver_of(
+    alloc: Global,
+    d: &[u8],
+    circuit: &Circuit,
+    spec: &SpecProgram,
+) -> Result<DriverProgram, VerifyFault>
+    requires { length d.now ≤ 67108864 }
+    ensures meant { IfOk result (λ driver. MeansDriver d.now circuit.now driver) }
+    ensures fault { IfErr result IsNoText }
+{
+    let text = parse(alloc, d)?;
+    let driver = lang_read::read_driver(alloc, text.trees.as_slice(), text.end, circuit, spec)?;
+    Ok(driver)
 }
 
 /// The device that four texts mean.
@@ -63,14 +84,14 @@ pub(crate) fn device_of(
     requires d { length d.now ≤ 67108864 }
     requires e { length e.now ≤ 67108864 }
     ensures circuit { IfOk result (λ dev. circuit_of c.now ≡ Some dev.circuit) }
+    ensures driver { IfOk result (λ dev. MeansDriver d.now dev.circuit dev.driver) }
     ensures fit { IfOk result (λ dev. fits_device dev.circuit dev.spec dev.driver dev.emulator ≡ true) }
     ensures fault { IfErr result IsNoText }
 {
     let circuit = btor_read::read_circuit(alloc, c)?;
     let text = parse(alloc, s)?;
     let spec = lang_read::read_spec(alloc, text.trees.as_slice(), text.end)?;
-    let text = parse(alloc, d)?;
-    let driver = lang_read::read_driver(alloc, text.trees.as_slice(), text.end, &circuit, &spec)?;
+    let driver = driver_of(alloc, d, &circuit, &spec)?;
     let text = parse(alloc, e)?;
     let emulator = lang_read::read_emulator(
         alloc,
@@ -136,6 +157,8 @@ fn verify_short(
 {
     let dev = device_of(alloc, c, s, d, e)?;
     let script = script_of(alloc, &dev, h)?;
+    dev.spec.is_well_formed();
+    dev.emulator.is_well_formed();
     emu_machine::devices_are_designs(&dev);
     script_core::scripts_are_formed(&script);
     knox_theory::closed_implies_agreement_on_wires::<()>();
