@@ -139,6 +139,29 @@ const WIDE_EMULATOR: &[u8] = b"\
   (assign ok r)))\n\
 ";
 
+/// Two outputs with one symbol, which names the first.
+const TWO_OUTPUTS: &[u8] = b"\
+1 sort bitvec 1\n\
+2 zero 1\n\
+3 constd 1 1\n\
+4 output 2 o\n\
+5 output 3 o\n\
+";
+
+/// Two states with one symbol, which names the first.
+const TWO_STATES: &[u8] = b"\
+1 sort bitvec 1\n\
+2 zero 1\n\
+3 input 1 d\n\
+4 state 1 m\n\
+5 init 1 4 2\n\
+6 next 1 4 3\n\
+7 state 1 m\n\
+8 init 1 7 2\n\
+9 next 1 7 7\n\
+10 output 4 q\n\
+";
+
 /// Five texts.
 #[derive(Clone, Copy)]
 struct Texts {
@@ -237,6 +260,30 @@ fn verdicts_and_their_lines(rt: HostRuntime) -> Result<(), Fail> {
             },
             Status::TooWide,
             b"too-wide 2 21\n".as_slice(),
+        ),
+        // The emulator shows 1 and 0, and the circuit 0 and 1.
+        (
+            Texts {
+                c: TWO_OUTPUTS,
+                s: b"(spec)",
+                d: b"(driver)",
+                e: b"(emulator (outputs (o #b1)))",
+                h: b"(refine #b1) (wire (cut A #b1) (step 1) (subsume A))",
+            },
+            Status::Undecided,
+            b"undecided 3\nchoices\n".as_slice(),
+        ),
+        // The first state keeps its word over a power-cycle, and the emulator starts at 0.
+        (
+            Texts {
+                c: TWO_STATES,
+                s: b"(spec)",
+                d: b"(driver (persistent m))",
+                e: b"(emulator (field r 1 0) (outputs (q r)) (tick (assign r (in d))))",
+                h: b"(refine #b1) (wire (cut A (eq (c @4) (e r))) (step 1) (subsume A))",
+            },
+            Status::Undecided,
+            b"undecided 2\nchoices 1\n".as_slice(),
         ),
     ];
     for (texts, status, out) in cases {
