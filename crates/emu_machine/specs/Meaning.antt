@@ -49,7 +49,7 @@ device_of c s d e = record {
   emu_tick = λ emu copy ins. tick_dialogue e emu ins;
 }
 
--- words all of which are taken: none is of a ROM
+-- words all of which are taken, a ROM's too
 abbrev pub all_taken : List ℕ → Part
 all_taken ws = record { widths = ws; fill = λ words. words; strip = λ words. words }
 
