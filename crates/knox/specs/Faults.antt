@@ -4,8 +4,8 @@ use Rattle.knox_circuit.specs.declared.fault.Why.{Why}
 use Rattle.knox_circuit.specs.declared.fault.Why.TheVariants as circuit
 use Rattle.knox_sexpr.specs.declared.fault.SexprFault.{SexprFault}
 use Rattle.knox_sexpr.specs.declared.fault.SexprFault.TheVariants as tree
-use Rattle.lang_read.specs.declared.fault.LangWhy.{LangWhy}
-use Rattle.lang_read.specs.declared.fault.LangWhy.TheVariants as lang
+use Rattle.expr_read.specs.declared.faults.LangWhy.{LangWhy}
+use Rattle.expr_read.specs.declared.faults.LangWhy.TheVariants as lang
 use Rattle.script_read.specs.declared.fault.ScriptWhy.{ScriptWhy}
 use Rattle.script_read.specs.declared.fault.ScriptWhy.TheVariants as script
 use Rattle.knox.specs.declared.verdict.VerifyFault.{VerifyFault}

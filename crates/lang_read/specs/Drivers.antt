@@ -10,13 +10,13 @@ use Rattle.knox_circuit.specs.Ports.{inputs_of, outputs_of}
 use Rattle.knox_circuit.specs.Circuit.{Circuit, cells_of}
 use Rattle.knox_lang.specs.declared.parts.DriverParts.{DriverParts}
 use Rattle.knox_lang.specs.WellFormed.{driver_fits}
-use Rattle.lang_read.specs.declared.fault.LangWhy.TheVariants.{UnknownName, Twice, Width, Missing}
-use Rattle.lang_read.specs.declared.fault.LangFault.{LangFault}
-use Rattle.lang_read.specs.declared.names.Group.TheVariants.{Device}
-use Rattle.lang_read.specs.declared.names.Named.{Named}
-use Rattle.lang_read.specs.declared.names.Seen.{Seen}
-use Rattle.lang_read.specs.Views.{◌>>=◌, fails, place_of, symbol_of, behind_head, no_more, each}
-use Rattle.lang_read.specs.Names.{found, cell_names, and_last}
+use Rattle.expr_read.specs.declared.faults.LangWhy.TheVariants.{UnknownName, Twice, Width, Missing}
+use Rattle.expr_read.specs.declared.faults.LangFault.{LangFault}
+use Rattle.expr_read.specs.declared.names.Group.TheVariants.{Device}
+use Rattle.expr_read.specs.declared.names.Named.{Named}
+use Rattle.expr_read.specs.declared.names.Seen.{Seen}
+use Rattle.expr_read.specs.Views.{◌>>=◌, fails, place_of, symbol_of, behind_head, no_more, each}
+use Rattle.expr_read.specs.Names.{found, cell_names, and_last}
 
 abbrev pub is_among : ℕ → List ℕ → Bool
 is_among k [] = false

@@ -1,5 +1,1 @@
-pub mod Views
-pub mod Names
-pub mod Fields
 pub mod Drivers
-pub mod Expressions

@@ -1,12 +1,10 @@
 //! Drivers: `(driver (persistent x ..))`, where the list may be left out.
 ghost use Rattle.std.specs.Prelude.{◌≡◌, IfOk};
-ghost use Rattle.lang_read.specs.Views.{Gives};
+ghost use Rattle.expr_read.specs.Views.{Gives};
 ghost use Rattle.lang_read.specs.Drivers.{is_among, cell_of, new_cell, named_cells, keep_from, persistent, listed, keep_of, idle_of, widths_of, wires, made, keep_in, driver_of, driver_text};
 ghost use Rattle.knox_circuit.specs.Circuit.{cells_of};
 
-use crate::fault::{LangFault, LangWhy, fault};
-use crate::names::{Group, Named, declare_cells, find};
-use crate::views::{behind_head, no_more, place_of, symbol_of};
+use expr_read::{Group, LangFault, LangWhy, Named, behind_head, declare_cells, fault, find, no_more, place_of, symbol_of};
 use knox_circuit::{Cell, Circuit, Port};
 use knox_lang::{DriverParts, DriverProgram, SpecProgram};
 use knox_sexpr::Tree;

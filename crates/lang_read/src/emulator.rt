@@ -1,15 +1,8 @@
 //! Emulators: `(emulator (field x w n) .. (outputs (x e) ..) (tick (local x w) .. stmt ..))`, where
 //! each part may be left out.
+use expr_read::{Group, LangFault, LangWhy, Named, Seen, Typed, behind_head, declare, declare_ports, expr_of_width, fault, field_names, fields_of, find, headed_count, is_headed, locals, no_more, parts_of, place_of, symbol_of};
 use crate::driver::widths_of;
-use crate::expression::{Typed, expr_of_width};
-use crate::fault::{LangFault, LangWhy, fault};
-use crate::fields::{field_names, fields_of};
-use crate::names::{Group, Named, Seen, declare, declare_ports, find, locals};
 use crate::statement::{Home, MOST_COST, block};
-use crate::views::{
-    behind_first, behind_head, first_of, headed_count, is_headed, no_more, parts_of, place_of,
-    symbol_of,
-};
 use knox_circuit::{Cell, Circuit, Port};
 use knox_lang::{
     Body, DriverProgram, EmuParts, EmuProgram, Expr, Field, OpHead, Space, SpecProgram,
@@ -244,6 +237,22 @@ fn emu_parts(
     })
 }
 
+/// The emulator of a tree, where other trees follow.
+fn emulator_of(
+    alloc: Global,
+    tree: &Tree,
+    more: &[Tree],
+    c: &Circuit,
+    s: &SpecProgram,
+) -> Result<EmuProgram, LangFault> {
+    let parts = emu_parts(alloc, tree, c, s)?;
+    no_more(more)?;
+    match EmuProgram::new(parts) {
+        Some(emulator) => Ok(emulator),
+        None => Err(fault(place_of(tree), LangWhy::Width)),
+    }
+}
+
 /// The emulator that the trees of a text mean over a circuit, a specification and a driver, where
 /// the text ends at a place. Read today are fields of one word, `outputs`, and a `tick` with
 /// `assign`, `if` and `query`; the driver says which noise an emulator sees at power-on, and in
@@ -256,11 +265,8 @@ pub fn read_emulator(
     s: &SpecProgram,
     _d: &DriverProgram,
 ) -> Result<EmuProgram, LangFault> {
-    let tree = first_of(trees, end)?;
-    let parts = emu_parts(alloc, tree, c, s)?;
-    no_more(behind_first(trees))?;
-    match EmuProgram::new(parts) {
-        Some(emulator) => Ok(emulator),
-        None => Err(fault(place_of(tree), LangWhy::Width)),
+    match trees.split_first() {
+        Some((tree, more)) => emulator_of(alloc, tree, more, c, s),
+        None => Err(fault(end, LangWhy::Missing)),
     }
 }

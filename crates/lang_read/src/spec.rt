@@ -2,15 +2,8 @@
 ghost use Rattle.std.specs.Prelude.{◌≡◌, IfOk, true};
 ghost use Rattle.knox_lang.specs.WellFormed.{spec_fits};
 
-use crate::expression::{Typed, expr_of_width};
-use crate::fault::{LangFault, LangWhy, fault};
-use crate::fields::{field_names, fields_of};
-use crate::names::{Named, arguments, declare, forget, op_number};
+use expr_read::{LangFault, LangWhy, Named, Typed, arguments, behind_head, declare, expr_of_width, fault, field_names, fields_of, forget, headed_count, is_headed, no_more, op_number, parts_of, place_of, symbol_of, width_of};
 use crate::statement::{Home, MOST_COST, block};
-use crate::views::{
-    behind_first, behind_head, first_of, headed_count, is_headed, no_more, parts_of, place_of,
-    symbol_of, width_of,
-};
 use knox_lang::{Body, OpHead, Space, SpecParts, SpecProgram};
 use knox_sexpr::Tree;
 use knox_text::Place;
@@ -150,16 +143,25 @@ fn spec_parts(alloc: Global, tree: &Tree) -> Result<SpecParts, LangFault> {
     })
 }
 
+/// The specification of a tree, where other trees follow.
+fn spec_of(alloc: Global, tree: &Tree, more: &[Tree]) -> Result<SpecProgram, LangFault>
+    ensures fits { IfOk result (λ p. spec_fits p ≡ true) }
+{
+    let parts = spec_parts(alloc, tree)?;
+    no_more(more)?;
+    match SpecProgram::new(parts) {
+        Some(spec) => Ok(spec),
+        None => Err(fault(place_of(tree), LangWhy::Width)),
+    }
+}
+
 /// The specification that the trees of a text mean, where the text ends at a place. Read today are
 /// fields of one word and operations with `assign`, and widths up to 8.
 pub fn read_spec(alloc: Global, trees: &[Tree], end: Place) -> Result<SpecProgram, LangFault>
     ensures fits { IfOk result (λ p. spec_fits p ≡ true) }
 {
-    let tree = first_of(trees, end)?;
-    let parts = spec_parts(alloc, tree)?;
-    no_more(behind_first(trees))?;
-    match SpecProgram::new(parts) {
-        Some(spec) => Ok(spec),
-        None => Err(fault(place_of(tree), LangWhy::Width)),
+    match trees.split_first() {
+        Some((tree, more)) => spec_of(alloc, tree, more),
+        None => Err(fault(end, LangWhy::Missing)),
     }
 }

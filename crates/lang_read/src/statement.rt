@@ -1,8 +1,5 @@
 //! Statements and bodies.
-use crate::expression::{Typed, expr, expr_of_width};
-use crate::fault::{LangFault, LangWhy, fault};
-use crate::names::{Named, Seen, op_number, target};
-use crate::views::{parts_of, place_of, symbol_of};
+use expr_read::{LangFault, LangWhy, Named, Seen, Typed, expr, expr_of_width, fault, op_number, parts_of, place_of, symbol_of, target};
 use knox_lang::{Expr, OpHead, Stmt};
 use knox_sexpr::Tree;
 use knox_text::Place;

@@ -3,7 +3,7 @@ ghost use Rattle.std.specs.Prelude.{◌≡◌};
 ghost use Rattle.script_read.specs.declared.fault.ScriptWhy.TheVariants.{Memory};
 
 use knox_text::Place;
-use lang_read::{LangFault, LangWhy};
+use expr_read::{LangFault, LangWhy};
 use std::alloc::AllocError;
 
 /// What is wrong at a place.

@@ -5,7 +5,7 @@ use emu_machine::Device;
 use knox_lang::Expr;
 use knox_sexpr::Tree;
 use knox_text::Place;
-use lang_read::{behind_head, is_headed, place_of};
+use expr_read::{behind_head, is_headed, place_of};
 use script_core::{Script, ScriptParts, Section};
 use sqlite_items::Items;
 use std::alloc::Global;

@@ -4,7 +4,7 @@ use emu_machine::Device;
 use knox_lang::{Expr, Space};
 use knox_sexpr::Tree;
 use knox_text::Place;
-use lang_read::{
+use expr_read::{
     Named, behind_head, declare_fields, declare_marked, number_of, place_of, symbol_of,
 };
 use script_core::{Act, HintNo, Item, Kind, Section};
@@ -43,7 +43,7 @@ fn cut_names(alloc: Global, dev: &Device) -> Result<Items<Named>, AllocError> {
 
 /// A condition: an expression of width 1 over some names.
 pub(crate) fn condition(alloc: Global, tree: &Tree, names: &[Named]) -> Result<Expr, ScriptFault> {
-    let value = lang_read::expr_of_width(alloc, tree, 1, names)?;
+    let value = expr_read::expr_of_width(alloc, tree, 1, names)?;
     if value.cost > MOST_COST {
         return Err(fault(place_of(tree), ScriptWhy::Bound));
     }

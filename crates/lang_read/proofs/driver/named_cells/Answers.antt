@@ -1,9 +1,9 @@
 use Rattle.std.proofs.Common.{◌≡◌, Ok}
 use Rattle.std.proofs.lemmas.Result.{err_from_is_err_and}
-use Rattle.lang_read.specs.Names.{and_last}
+use Rattle.expr_read.specs.Names.{and_last}
 use Rattle.lang_read.specs.Drivers.{new_cell}
-use Rattle.lang_read.specs.Views.{Fails}
-use Rattle.lang_read.proofs.Lists.{each-fails, each-goes, each-ends}
+use Rattle.expr_read.specs.Views.{Fails}
+use Rattle.expr_read.proofs.Lists.{each-fails, each-goes, each-ends}
 use Rattle.lang_read.proofs.driver.named_cells.Goals as goal
 
 pub returns-in_err-cell : goal.returns-in_err-cell

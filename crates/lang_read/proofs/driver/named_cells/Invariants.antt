@@ -1,6 +1,6 @@
 use Rattle.std.proofs.Common.{◌≡◌, drop}
-use Rattle.lang_read.specs.Views.{each}
-use Rattle.lang_read.specs.Names.{and_last}
+use Rattle.expr_read.specs.Views.{each}
+use Rattle.expr_read.specs.Names.{and_last}
 use Rattle.lang_read.specs.Drivers.{new_cell, named_cells}
 use Rattle.lang_read.proofs.driver.named_cells.Given as goal
 

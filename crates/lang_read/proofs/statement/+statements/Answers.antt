@@ -1,5 +1,5 @@
 use Rattle.std.proofs.Common.{◌≡◌, ◌<◌, ◌+◌, ◌-◌, ◌*◌, ◌∙◌, ap, arith, rules, length, take, drop}
-use Rattle.lang_read.proofs.Weights.{weight, weights, weight-List, weight-at, weight-behind}
+use Rattle.expr_read.proofs.Weights.{weight, weights, weight-List, weight-at, weight-behind}
 use Rattle.lang_read.proofs.statement.+statements.Goals as goal
 
 pub block-statement-requires : goal.block-statement-requires

@@ -1,5 +1,5 @@
 use Rattle.std.proofs.Common.{◌+◌, ◌*◌}
-use Rattle.lang_read.proofs.Weights.{weight, weights}
+use Rattle.expr_read.proofs.Weights.{weight, weights}
 use Rattle.lang_read.proofs.statement.+statements.Given as goal
 
 abbrev pub decreases-block : goal.decreases-block

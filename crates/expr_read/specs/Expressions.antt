@@ -1,0 +1,168 @@
+-- Which expression a tree means, with its width and its cost, or its first fault.
+use Rattle.std.specs.Prelude.{ℕ, zero, suc, ◌+◌, ◌-◌, ◌^◌, ◌==◌, ◌&&◌, min, if◌then◌else◌, List, [], ◌∷◌, codes, Option, Some, None, Result, Ok}
+use Rattle.std.specs.Str.{bytes_eq}
+use Rattle.knox_text.specs.declared.place.Place.{Place}
+use Rattle.knox_words.specs.Bits.{bits, is_word}
+use Rattle.knox_words.specs.declared.op.Op1.{Op1}
+use Rattle.knox_words.specs.declared.op.Op1.TheVariants as un
+use Rattle.knox_words.specs.declared.op.Op2.{Op2}
+use Rattle.knox_words.specs.declared.op.Op2.TheVariants as bin
+use Rattle.knox_lang.specs.declared.expr.Expr.{Expr}
+use Rattle.knox_lang.specs.declared.expr.Expr.TheVariants as exprs
+use Rattle.knox_sexpr.specs.declared.tree.Tree.{Tree, fold-Tree, roll-Tree, map-Tree, out-Tree}
+use Rattle.knox_sexpr.specs.declared.tree.Tree.TheOpen.{Tree-F}
+use Rattle.expr_read.specs.declared.faults.LangWhy.TheVariants.{Form, UnknownName, Width, Arity}
+use Rattle.expr_read.specs.declared.faults.LangFault.{LangFault}
+use Rattle.expr_read.specs.declared.expression.Typed.{Typed}
+use Rattle.expr_read.specs.declared.expression.Head.{Head}
+use Rattle.expr_read.specs.declared.expression.Head.TheVariants.{Un, Bin, Ite, Bv, Names, Unknown, NoSymbol}
+use Rattle.expr_read.specs.declared.names.Group.{Group}
+use Rattle.expr_read.specs.declared.names.Group.TheVariants.{Plain, Input, Device, Spec, Emu}
+use Rattle.expr_read.specs.declared.names.Named.{Named}
+use Rattle.expr_read.specs.declared.names.Seen.{Seen}
+use Rattle.expr_read.specs.Views.{◌>>=◌, fails, place_of, number_of, is_width, width_of, symbol_of}
+use Rattle.expr_read.specs.Names.{found}
+
+abbrev pub Reading : Type 0
+Reading = List Named → Result Typed LangFault
+
+-- a part of a list, and what it means as an expression
+pub record Part : Type 0 where
+  pub tree : Tree
+  pub reading : Reading
+
+-- a sum of costs; every limit is far below its greatest value
+abbrev pub dearer : ℕ → ℕ → ℕ
+dearer a b = min (a + b) (2 ^ 64 - 1)
+
+abbrev pub typed : Expr → ℕ → ℕ → Typed
+typed e w c = record { expr = e; width = w; cost = c }
+
+-- ---- words and names
+
+abbrev pub word : Place → ℕ → ℕ → Result Typed LangFault
+word at w n = if is_word (bits w n) then Ok (typed (exprs.Lit (bits w n)) w 1) else fails at Width
+
+-- a number that is written with its width
+abbrev pub literal : Place → ℕ → ℕ → Result Typed LangFault
+literal at zero value = fails at Form
+literal at (suc w) value = if is_width (suc w) then word at (suc w) value else fails at Width
+
+abbrev pub meant : Place → Option Seen → Result Typed LangFault
+meant at None = fails at UnknownName
+meant at (Some s) = Ok (typed (exprs.Name s.slot) s.width 1)
+
+abbrev pub named : Place → Group → List ℕ → Reading
+named at group name names = meant at (found group name None names)
+
+-- ---- operators
+
+-- the width of an operator's result
+abbrev pub un_width : Op1 → ℕ → ℕ
+un_width un.Redor w = 1
+un_width o w = w
+
+abbrev pub bin_width : Op2 → ℕ → ℕ
+bin_width bin.Eq w = 1
+bin_width o w = w
+
+abbrev pub un_of : Op1 → Typed → Typed
+un_of o x = typed (exprs.Un o x.expr) (un_width o x.width) (dearer x.cost 1)
+
+abbrev pub bin_of : Op2 → Typed × Typed → Typed
+bin_of o p = typed (exprs.Bin o p.0.expr p.1.expr) (bin_width o p.0.width) (dearer (dearer p.0.cost p.1.cost) 1)
+
+abbrev pub ite_of : Typed × Typed × Typed → Typed
+ite_of p = typed (exprs.Ite p.0.expr p.1.expr p.2.expr) p.1.width (dearer (dearer (dearer p.1.cost p.2.cost) p.0.cost) 1)
+
+-- one operand
+abbrev pub one : Place → List Part → Reading
+one at (a ∷ []) names = a.reading names
+one at parts names = fails at Arity
+
+-- two operands of one width
+abbrev pub two : Place → List Part → List Named → Result (Typed × Typed) LangFault
+two at (a ∷ b ∷ []) names = do
+  x ← a.reading names
+  y ← b.reading names
+  if x.width == y.width then Ok (x, y) else fails at Width
+two at parts names = fails at Arity
+
+-- a condition and two operands of one width
+abbrev pub three : Place → List Part → List Named → Result (Typed × Typed × Typed) LangFault
+three at (c ∷ a ∷ b ∷ []) names = do
+  z ← c.reading names
+  x ← a.reading names
+  y ← b.reading names
+  if z.width == 1 && x.width == y.width then Ok (z, x, y) else fails at Width
+three at parts names = fails at Arity
+
+-- ---- forms
+
+-- (bv w n)
+abbrev pub bv_word : Tree → Tree → Result Typed LangFault
+bv_word width number = do
+  w ← width_of width
+  n ← number_of number
+  word (place_of number) w n
+
+abbrev pub bv : Place → List Part → Result Typed LangFault
+bv at (w ∷ n ∷ []) = bv_word w.tree n.tree
+bv at parts = fails at Form
+
+-- (in x) and its like
+abbrev pub named_symbol : Group → Tree → Reading
+named_symbol group x names = symbol_of x >>= λ name. named (place_of x) group name names
+
+abbrev pub named_by_form : Place → Group → List Part → Reading
+named_by_form at group (x ∷ []) names = named_symbol group x.tree names
+named_by_form at group parts names = fails at Form
+
+abbrev pub keyword : List ℕ → Head
+keyword name =
+    if bytes_eq name (codes "not") then Un un.Not else if bytes_eq name (codes "redor") then Un un.Redor
+    else if bytes_eq name (codes "eq") then Bin bin.Eq else if bytes_eq name (codes "and") then Bin bin.And
+    else if bytes_eq name (codes "ite") then Ite else if bytes_eq name (codes "bv") then Bv
+    else if bytes_eq name (codes "in") then Names Input else if bytes_eq name (codes "s") then Names Spec
+    else if bytes_eq name (codes "c") then Names Device else if bytes_eq name (codes "e") then Names Emu else Unknown
+
+abbrev pub head_in : Tree-F Tree → Head
+head_in (Tree-F.Atom at name) = keyword name
+head_in (Tree-F.Number at width value) = NoSymbol
+head_in (Tree-F.List at parts close) = NoSymbol
+
+abbrev pub head_of : Tree → Head
+head_of t = head_in (out-Tree t)
+
+-- what a head, whose place is the second, gives of the parts behind it
+abbrev pub applied : Place → Place → Head → List Part → Reading
+applied at head_at (Un o) parts names = one at parts names >>= λ x. Ok (un_of o x)
+applied at head_at (Bin o) parts names = two at parts names >>= λ p. Ok (bin_of o p)
+applied at head_at Ite parts names = three at parts names >>= λ p. Ok (ite_of p)
+applied at head_at Bv parts names = bv at parts
+applied at head_at (Names group) parts names = named_by_form at group parts names
+applied at head_at Unknown parts names = fails head_at UnknownName
+applied at head_at NoSymbol parts names = fails head_at Form
+
+abbrev pub list : Place → List Part → Reading
+list at [] names = fails at Form
+list at (head ∷ parts) names = applied at (place_of head.tree) (head_of head.tree) parts names
+
+abbrev pub reading_level : Tree-F Part → Reading
+reading_level (Tree-F.Atom at name) names = named at Plain name names
+reading_level (Tree-F.Number at width value) names = literal at width value
+reading_level (Tree-F.List at parts close) names = list at parts names
+
+abbrev pub part_level : Tree-F Part → Part
+part_level y = record { tree = roll-Tree (map-Tree Part Tree (λ p. p.tree) y); reading = reading_level y }
+
+unfoldable pub part : Tree → Part
+part t = fold-Tree Part part_level t
+
+-- the expression that a tree means under names in scope
+abbrev pub expr_of : Tree → Reading
+expr_of t = (part t).reading
+
+-- an expression of a width that is wanted
+abbrev pub expr_of_width : Tree → ℕ → Reading
+expr_of_width t w names = expr_of t names >>= λ x. if x.width == w then Ok x else fails (place_of t) Width

@@ -1,0 +1,345 @@
+//! Expressions: one small function for each shape of operands.
+ghost use Rattle.std.specs.Prelude.{◌≡◌, map, Ok};
+ghost use Rattle.expr_read.specs.Views.{Gives};
+ghost use Rattle.expr_read.specs.Expressions.{Part, part, dearer, word, literal, named, un_width, bin_width, un_of, bin_of, ite_of, one, two, three, bv_word, bv, named_symbol, named_by_form, keyword, head_of, applied, list, expr_of, expr_of_width};
+
+use crate::faults::{LangFault, LangWhy, fault};
+use crate::names::{Group, Named, find};
+use crate::views::{is_width, number_of, place_of, symbol_of, width_of};
+use knox_lang::Expr;
+use knox_sexpr::Tree;
+use knox_text::Place;
+use knox_words::{Op1, Op2, Word};
+use sqlite_items::Boxed;
+use std::alloc::Global;
+
+/// An expression, its width, and its cost.
+#[derive(Drop)]
+pub struct Typed {
+    pub expr: Expr,
+    pub width: u8,
+    pub cost: u64,
+}
+
+/// What a list begins with.
+#[derive(Clone, Copy, Debug, PartialEq, Eq)]
+enum Head {
+    Un(Op1),
+    Bin(Op2),
+    Ite,
+    Bv,
+    /// A form that names a word of the circuit.
+    Names(Group),
+    /// A symbol that begins no expression.
+    Unknown,
+    /// No symbol.
+    NoSymbol,
+}
+
+fn keyword(name: &[u8]) -> Head
+    ensures { result ≡ keyword name.now }
+{
+    if name == b"not".as_slice() {
+        Head::Un(Op1::Not)
+    } else if name == b"redor".as_slice() {
+        Head::Un(Op1::Redor)
+    } else if name == b"eq".as_slice() {
+        Head::Bin(Op2::Eq)
+    } else if name == b"and".as_slice() {
+        Head::Bin(Op2::And)
+    } else if name == b"ite".as_slice() {
+        Head::Ite
+    } else if name == b"bv".as_slice() {
+        Head::Bv
+    } else if name == b"in".as_slice() {
+        Head::Names(Group::Input)
+    } else if name == b"s".as_slice() {
+        Head::Names(Group::Spec)
+    } else if name == b"c".as_slice() {
+        Head::Names(Group::Device)
+    } else if name == b"e".as_slice() {
+        Head::Names(Group::Emu)
+    } else {
+        Head::Unknown
+    }
+}
+
+fn head_of(tree: &Tree) -> Head
+    ensures { result ≡ head_of tree.now }
+{
+    match tree {
+        Tree::Atom(_, name) => keyword(name.as_slice()),
+        Tree::Number(_, _, _) => Head::NoSymbol,
+        Tree::List(_, _, _) => Head::NoSymbol,
+    }
+}
+
+fn word(at: Place, width: u8, value: u128) -> Result<Typed, LangFault>
+    ensures { Gives result (word at width value) }
+{
+    match Word::new(width, value) {
+        Some(word) => Ok(Typed {
+            expr: Expr::Lit(word),
+            width,
+            cost: 1,
+        }),
+        None => Err(fault(at, LangWhy::Width)),
+    }
+}
+
+/// A number that is written with its width.
+fn literal(at: Place, width: u8, value: u128) -> Result<Typed, LangFault>
+    ensures { Gives result (literal at width value) }
+{
+    if width == 0 {
+        return Err(fault(at, LangWhy::Form));
+    }
+    if !is_width(u128::from(width)) {
+        return Err(fault(at, LangWhy::Width));
+    }
+    word(at, width, value)
+}
+
+/// A word of a width.
+fn bv_word(width: &Tree, number: &Tree) -> Result<Typed, LangFault>
+    ensures { Gives result (bv_word width.now number.now) }
+{
+    let w = width_of(width)?;
+    let n = number_of(number)?;
+    word(place_of(number), w, n)
+}
+
+/// `(bv w n)`.
+fn bv(at: Place, parts: &[Tree]) -> Result<Typed, LangFault>
+    ensures { Gives result (bv at (map part parts.now)) }
+{
+    match parts {
+        [width, number] => bv_word(width, number),
+        _ => Err(fault(at, LangWhy::Form)),
+    }
+}
+
+fn named(at: Place, group: Group, name: &[u8], names: &[Named]) -> Result<Typed, LangFault>
+    ensures { Gives result (named at group name.now names.now) }
+{
+    match find(group, name, names) {
+        Some(seen) => Ok(Typed {
+            expr: Expr::Name(seen.slot),
+            width: seen.width,
+            cost: 1,
+        }),
+        None => Err(fault(at, LangWhy::UnknownName)),
+    }
+}
+
+/// The word of a group that a tree names.
+fn named_symbol(group: Group, tree: &Tree, names: &[Named]) -> Result<Typed, LangFault>
+    ensures { Gives result (named_symbol group tree.now names.now) }
+{
+    let name = symbol_of(tree)?;
+    named(place_of(tree), group, name, names)
+}
+
+/// `(in x)` and its like.
+fn named_by_form(
+    at: Place,
+    group: Group,
+    parts: &[Tree],
+    names: &[Named],
+) -> Result<Typed, LangFault>
+    ensures { Gives result (named_by_form at group (map part parts.now) names.now) }
+{
+    match parts {
+        [x] => named_symbol(group, x, names),
+        _ => Err(fault(at, LangWhy::Form)),
+    }
+}
+
+/// The width of an operator's result.
+fn un_width(op: Op1, width: u8) -> u8
+    ensures { result ≡ un_width op width }
+{
+    match op {
+        Op1::Redor => 1,
+        _ => width,
+    }
+}
+
+fn bin_width(op: Op2, width: u8) -> u8
+    ensures { result ≡ bin_width op width }
+{
+    match op {
+        Op2::Eq => 1,
+        _ => width,
+    }
+}
+
+fn un_of(alloc: Global, op: Op1, x: Typed) -> Result<Typed, LangFault>
+    ensures { Gives result (Ok (un_of op x)) }
+{
+    Ok(Typed {
+        width: un_width(op, x.width),
+        cost: x.cost.saturating_add(1),
+        expr: Expr::Un(op, Boxed::new(alloc, x.expr)?),
+    })
+}
+
+fn bin_of(alloc: Global, op: Op2, x: Typed, y: Typed) -> Result<Typed, LangFault>
+    ensures { Gives result (Ok (bin_of op (x, y))) }
+{
+    let width = bin_width(op, x.width);
+    let cost = x.cost.saturating_add(y.cost).saturating_add(1);
+    let x = Boxed::new(alloc, x.expr)?;
+    let y = Boxed::new(alloc, y.expr)?;
+    Ok(Typed {
+        expr: Expr::Bin(op, x, y),
+        width,
+        cost,
+    })
+}
+
+fn ite_of(alloc: Global, c: Typed, x: Typed, y: Typed) -> Result<Typed, LangFault>
+    ensures { Gives result (Ok (ite_of (c, x, y))) }
+{
+    let width = x.width;
+    let parts = x.cost.saturating_add(y.cost);
+    let cost = parts.saturating_add(c.cost).saturating_add(1);
+    let c = Boxed::new(alloc, c.expr)?;
+    let x = Boxed::new(alloc, x.expr)?;
+    let y = Boxed::new(alloc, y.expr)?;
+    Ok(Typed {
+        expr: Expr::Ite(c, x, y),
+        width,
+        cost,
+    })
+}
+
+/// The expression that a tree means.
+#[cycle(expressions)]
+pub fn expr(alloc: Global, tree: &Tree, names: &[Named]) -> Result<Typed, LangFault>
+    ensures { Gives result (expr_of tree.now names.now) }
+{
+    match tree {
+        Tree::Atom(at, name) => named(*at, Group::Plain, name.as_slice(), names),
+        Tree::Number(at, width, value) => literal(*at, *width, *value),
+        Tree::List(at, parts, _) => list(alloc, *at, parts.as_slice(), names),
+    }
+}
+
+#[cycle(expressions)]
+fn list(alloc: Global, at: Place, parts: &[Tree], names: &[Named]) -> Result<Typed, LangFault>
+    ensures { Gives result (list at (map part parts.now) names.now) }
+{
+    match parts {
+        [] => Err(fault(at, LangWhy::Form)),
+        [head, rest @ ..] => applied(alloc, at, place_of(head), head_of(head), rest, names),
+    }
+}
+
+/// What a head gives of the parts behind it.
+#[cycle(expressions)]
+fn applied(
+    alloc: Global,
+    at: Place,
+    head_at: Place,
+    head: Head,
+    parts: &[Tree],
+    names: &[Named],
+) -> Result<Typed, LangFault>
+    ensures { Gives result (applied at head_at head (map part parts.now) names.now) }
+{
+    match head {
+        Head::Un(op) => {
+            let x = one(alloc, at, parts, names)?;
+            un_of(alloc, op, x)
+        }
+        Head::Bin(op) => {
+            let (x, y) = two(alloc, at, parts, names)?;
+            bin_of(alloc, op, x, y)
+        }
+        Head::Ite => {
+            let (c, x, y) = three(alloc, at, parts, names)?;
+            ite_of(alloc, c, x, y)
+        }
+        Head::Bv => bv(at, parts),
+        Head::Names(group) => named_by_form(at, group, parts, names),
+        Head::Unknown => Err(fault(head_at, LangWhy::UnknownName)),
+        Head::NoSymbol => Err(fault(head_at, LangWhy::Form)),
+    }
+}
+
+#[cycle(expressions)]
+fn one(alloc: Global, at: Place, parts: &[Tree], names: &[Named]) -> Result<Typed, LangFault>
+    ensures { Gives result (one at (map part parts.now) names.now) }
+{
+    match parts {
+        [x] => expr(alloc, x, names),
+        _ => Err(fault(at, LangWhy::Arity)),
+    }
+}
+
+/// Two operands of one width.
+#[cycle(expressions)]
+fn two(
+    alloc: Global,
+    at: Place,
+    parts: &[Tree],
+    names: &[Named],
+) -> Result<(Typed, Typed), LangFault>
+    ensures { Gives result (two at (map part parts.now) names.now) }
+{
+    match parts {
+        [x, y] => {
+            let x = expr(alloc, x, names)?;
+            let y = expr(alloc, y, names)?;
+            if x.width == y.width {
+                Ok((x, y))
+            } else {
+                Err(fault(at, LangWhy::Width))
+            }
+        }
+        _ => Err(fault(at, LangWhy::Arity)),
+    }
+}
+
+/// A condition, and two operands of one width.
+#[cycle(expressions)]
+fn three(
+    alloc: Global,
+    at: Place,
+    parts: &[Tree],
+    names: &[Named],
+) -> Result<(Typed, Typed, Typed), LangFault>
+    ensures { Gives result (three at (map part parts.now) names.now) }
+{
+    match parts {
+        [c, x, y] => {
+            let c = expr(alloc, c, names)?;
+            let x = expr(alloc, x, names)?;
+            let y = expr(alloc, y, names)?;
+            if c.width == 1 && x.width == y.width {
+                Ok((c, x, y))
+            } else {
+                Err(fault(at, LangWhy::Width))
+            }
+        }
+        _ => Err(fault(at, LangWhy::Arity)),
+    }
+}
+
+/// An expression of a width that is wanted.
+pub fn expr_of_width(
+    alloc: Global,
+    tree: &Tree,
+    width: u8,
+    names: &[Named],
+) -> Result<Typed, LangFault>
+    ensures { Gives result (expr_of_width tree.now width names.now) }
+{
+    let x = expr(alloc, tree, names)?;
+    if x.width == width {
+        Ok(x)
+    } else {
+        Err(fault(place_of(tree), LangWhy::Width))
+    }
+}

@@ -1,6 +1,0 @@
-use Rattle.std.proofs.Common.{◌≡◌, drop, None}
-use Rattle.lang_read.specs.Names.{found}
-use Rattle.lang_read.proofs.names.find.Given as goal
-
-abbrev pub invariant-loop-named : goal.invariant-loop-named
-invariant-loop-named l = found l.group l.name l.found (drop l.named-index l.names) ≡ found l.group l.name None l.names
