@@ -4,7 +4,10 @@ ghost use Rattle.expr_read.specs.Views.{Gives};
 ghost use Rattle.lang_read.specs.Drivers.{is_among, cell_of, new_cell, named_cells, keep_from, persistent, listed, keep_of, idle_of, widths_of, wires, made, keep_in, driver_of, driver_text};
 ghost use Rattle.knox_circuit.specs.Circuit.{cells_of};
 
-use expr_read::{Group, LangFault, LangWhy, Named, behind_head, declare_cells, fault, find, no_more, place_of, symbol_of};
+use expr_read::{
+    Group, LangFault, LangWhy, Named, behind_head, declare_cells, fault, find, no_more, place_of,
+    symbol_of,
+};
 use knox_circuit::{Cell, Circuit, Port};
 use knox_lang::{DriverParts, DriverProgram, SpecProgram};
 use knox_sexpr::Tree;

@@ -1,8 +1,12 @@
 //! Emulators: `(emulator (field x w n) .. (outputs (x e) ..) (tick (local x w) .. stmt ..))`, where
 //! each part may be left out.
-use expr_read::{Group, LangFault, LangWhy, Named, Seen, Typed, behind_head, declare, declare_ports, expr_of_width, fault, field_names, fields_of, find, headed_count, is_headed, locals, no_more, parts_of, place_of, symbol_of};
 use crate::driver::widths_of;
 use crate::statement::{Home, MOST_COST, block};
+use expr_read::{
+    Group, LangFault, LangWhy, Named, Seen, Typed, behind_head, declare, declare_ports,
+    expr_of_width, fault, field_names, fields_of, find, headed_count, is_headed, locals, no_more,
+    parts_of, place_of, symbol_of,
+};
 use knox_circuit::{Cell, Circuit, Port};
 use knox_lang::{
     Body, DriverProgram, EmuParts, EmuProgram, Expr, Field, OpHead, Space, SpecProgram,

@@ -2,8 +2,12 @@
 ghost use Rattle.std.specs.Prelude.{◌≡◌, IfOk, true};
 ghost use Rattle.knox_lang.specs.WellFormed.{spec_fits};
 
-use expr_read::{LangFault, LangWhy, Named, Typed, arguments, behind_head, declare, expr_of_width, fault, field_names, fields_of, forget, headed_count, is_headed, no_more, op_number, parts_of, place_of, symbol_of, width_of};
 use crate::statement::{Home, MOST_COST, block};
+use expr_read::{
+    LangFault, LangWhy, Named, Typed, arguments, behind_head, declare, expr_of_width, fault,
+    field_names, fields_of, forget, headed_count, is_headed, no_more, op_number, parts_of,
+    place_of, symbol_of, width_of,
+};
 use knox_lang::{Body, OpHead, Space, SpecParts, SpecProgram};
 use knox_sexpr::Tree;
 use knox_text::Place;

@@ -1,10 +1,17 @@
 //! Statements and bodies.
-use expr_read::{LangFault, LangWhy, Named, Seen, Typed, expr, expr_of_width, fault, op_number, parts_of, place_of, symbol_of, target};
+ghost use Rattle.std.specs.Prelude.{◌≡◌, map, slice_get, Ok};
+ghost use Rattle.expr_read.specs.Views.{Gives, Sees};
+ghost use Rattle.lang_read.specs.Statements.{stmt_part, in_tick, keyword_in, keyword_of, assign, assigned, if_of, branch, values_of, suit, reply, given, asked, head_at, op_of, queried, query, earlier, form, begun, stmt_of, inner_of, block_of};
+
+use expr_read::{
+    LangFault, LangWhy, Named, Seen, Typed, expr, expr_of_width, fault, op_number, place_of,
+    symbol_of, target,
+};
 use knox_lang::{Expr, OpHead, Stmt};
 use knox_sexpr::Tree;
 use knox_text::Place;
 use sqlite_items::Items;
-use std::alloc::Global;
+use std::alloc::{AllocError, Global};
 
 /// The greatest cost of a body that is no driver's, and of an expression that stands in no body.
 pub(crate) const MOST_COST: u64 = 1_000_000;
@@ -42,14 +49,18 @@ enum Keyword {
     Other,
 }
 
-fn in_tick(home: Home, keyword: Keyword) -> Keyword {
+fn in_tick(home: Home, keyword: Keyword) -> Keyword
+    ensures { result ≡ in_tick home keyword }
+{
     match home {
         Home::Tick => keyword,
         Home::Operation => Keyword::Other,
     }
 }
 
-fn keyword_in(home: Home, name: &[u8]) -> Keyword {
+fn keyword_in(home: Home, name: &[u8]) -> Keyword
+    ensures { result ≡ keyword_in home name.now }
+{
     if name == b"assign".as_slice() {
         Keyword::Assign
     } else if name == b"if".as_slice() {
@@ -61,14 +72,17 @@ fn keyword_in(home: Home, name: &[u8]) -> Keyword {
     }
 }
 
-fn keyword_of(home: Home, tree: &Tree) -> Keyword {
+fn keyword_of(home: Home, tree: &Tree) -> Keyword
+    ensures { result ≡ keyword_of home tree.now }
+{
     match tree {
         Tree::Atom(_, name) => keyword_in(home, name.as_slice()),
-        _ => Keyword::Other,
+        Tree::Number(_, _, _) => Keyword::Other,
+        Tree::List(_, _, _) => Keyword::Other,
     }
 }
 
-/// The statements that trees mean, in order.
+/// The statements that trees mean, in order, and the sum of their costs.
 #[cycle(statements)]
 pub(crate) fn block(
     alloc: Global,
@@ -76,7 +90,9 @@ pub(crate) fn block(
     trees: &[Tree],
     names: &[Named],
     ops: &[OpHead],
-) -> Result<Steps, LangFault> {
+) -> Result<Steps, LangFault>
+    ensures { Gives result (block_of home trees.now names.now ops.now) }
+{
     let mut stmts = Items::new(alloc);
     let mut cost: u64 = 0;
     for tree in trees {
@@ -95,10 +111,13 @@ fn statement(
     tree: &Tree,
     names: &[Named],
     ops: &[OpHead],
-) -> Result<Step, LangFault> {
+) -> Result<Step, LangFault>
+    ensures { Gives result (stmt_of home tree.now names.now ops.now) }
+{
     match tree {
+        Tree::Atom(at, _) => Err(fault(*at, LangWhy::Form)),
+        Tree::Number(at, _, _) => Err(fault(*at, LangWhy::Form)),
         Tree::List(at, parts, _) => begun(alloc, home, *at, parts.as_slice(), names, ops),
-        _ => Err(fault(place_of(tree), LangWhy::Form)),
     }
 }
 
@@ -111,37 +130,64 @@ fn begun(
     parts: &[Tree],
     names: &[Named],
     ops: &[OpHead],
-) -> Result<Step, LangFault> {
+) -> Result<Step, LangFault>
+    ensures { Gives result (begun home at (map stmt_part parts.now) names.now ops.now) }
+{
     match parts {
         [] => Err(fault(at, LangWhy::Form)),
-        [head, rest @ ..] => match keyword_of(home, head) {
-            Keyword::Assign => assign(alloc, at, rest, names),
-            Keyword::If => branch(alloc, home, at, rest, names, ops),
-            Keyword::Query => query(alloc, at, rest, names, ops),
-            Keyword::Other => Err(fault(at, LangWhy::Form)),
-        },
+        [head, rest @ ..] => form(alloc, home, at, keyword_of(home, head), rest, names, ops),
     }
 }
 
+/// What a keyword gives of the parts behind it.
+#[cycle(statements)]
+fn form(
+    alloc: Global,
+    home: Home,
+    at: Place,
+    keyword: Keyword,
+    parts: &[Tree],
+    names: &[Named],
+    ops: &[OpHead],
+) -> Result<Step, LangFault>
+    ensures { Gives result (form home at keyword (map stmt_part parts.now) names.now ops.now) }
+{
+    match keyword {
+        Keyword::Assign => assign(alloc, at, parts, names),
+        Keyword::If => branch(alloc, home, at, parts, names, ops),
+        Keyword::Query => query(alloc, at, parts, names, ops),
+        Keyword::Other => Err(fault(at, LangWhy::Form)),
+    }
+}
+
+/// An assignment of a value to a target.
+fn assigned(alloc: Global, x: &Tree, e: &Tree, names: &[Named]) -> Result<Step, LangFault>
+    ensures { Gives result (assigned x.now e.now names.now) }
+{
+    let seen = target(x, names)?;
+    let value = expr_of_width(alloc, e, seen.width, names)?;
+    Ok(Step {
+        stmt: Stmt::Assign(seen.slot, value.expr),
+        cost: value.cost.saturating_add(1),
+    })
+}
+
 /// `(assign x e)`.
-fn assign(alloc: Global, at: Place, parts: &[Tree], names: &[Named]) -> Result<Step, LangFault> {
+fn assign(alloc: Global, at: Place, parts: &[Tree], names: &[Named]) -> Result<Step, LangFault>
+    ensures { Gives result (assign at parts.now names.now) }
+{
     match parts {
-        [x, e] => {
-            let seen = target(x, names)?;
-            let value = expr_of_width(alloc, e, seen.width, names)?;
-            Ok(Step {
-                stmt: Stmt::Assign(seen.slot, value.expr),
-                cost: value.cost.saturating_add(1),
-            })
-        }
+        [x, e] => assigned(alloc, x, e, names),
         _ => Err(fault(at, LangWhy::Form)),
     }
 }
 
-fn if_of(test: Typed, yes: Steps, no: Steps) -> Step {
-    let dearer = yes.cost.max(no.cost);
+fn if_of(test: Typed, first: Steps, second: Steps) -> Step
+    ensures { result ≡ if_of test first second }
+{
+    let dearer = first.cost.max(second.cost);
     Step {
-        stmt: Stmt::If(test.expr, yes.stmts, no.stmts),
+        stmt: Stmt::If(test.expr, first.stmts, second.stmts),
         cost: test.cost.saturating_add(dearer).saturating_add(1),
     }
 }
@@ -155,13 +201,15 @@ fn branch(
     parts: &[Tree],
     names: &[Named],
     ops: &[OpHead],
-) -> Result<Step, LangFault> {
+) -> Result<Step, LangFault>
+    ensures { Gives result (branch home at (map stmt_part parts.now) names.now ops.now) }
+{
     match parts {
-        [e, yes, no] => {
+        [e, a, b] => {
             let test = expr_of_width(alloc, e, 1, names)?;
-            let yes = inner(alloc, home, yes, names, ops)?;
-            let no = inner(alloc, home, no, names, ops)?;
-            Ok(if_of(test, yes, no))
+            let first = inner(alloc, home, a, names, ops)?;
+            let second = inner(alloc, home, b, names, ops)?;
+            Ok(if_of(test, first, second))
         }
         _ => Err(fault(at, LangWhy::Form)),
     }
@@ -175,17 +223,33 @@ fn inner(
     tree: &Tree,
     names: &[Named],
     ops: &[OpHead],
-) -> Result<Steps, LangFault> {
+) -> Result<Steps, LangFault>
+    ensures { Gives result (inner_of home tree.now names.now ops.now) }
+{
     match tree {
+        Tree::Atom(at, _) => Err(fault(*at, LangWhy::Form)),
+        Tree::Number(at, _, _) => Err(fault(*at, LangWhy::Form)),
         Tree::List(_, parts, _) => block(alloc, home, parts.as_slice(), names, ops),
-        _ => Err(fault(place_of(tree), LangWhy::Form)),
     }
 }
 
-/// The operation that a tree names.
-fn op_of(tree: &Tree, ops: &[OpHead]) -> Result<usize, LangFault> {
-    match op_number(symbol_of(tree)?, ops) {
-        Some(number) => Ok(number),
+/// The head of the operation with a number, whose name is at the place.
+fn head_at(at: Place, number: usize, ops: &[OpHead]) -> Result<(usize, &OpHead), LangFault>
+    ensures { Sees (λ p. (p.0, p.1.now)) result (head_at at number (slice_get ops.now number)) }
+{
+    match ops.get(number) {
+        Some(head) => Ok((number, head)),
+        None => Err(fault(at, LangWhy::UnknownName)),
+    }
+}
+
+/// The operation that a tree names: its number and its head.
+fn op_of<'a>(tree: &Tree, ops: &'a [OpHead]) -> Result<(usize, &'a OpHead), LangFault>
+    ensures { Sees (λ p. (p.0, p.1.now)) result (op_of tree.now ops.now) }
+{
+    let name = symbol_of(tree)?;
+    match op_number(name, ops) {
+        Some(number) => head_at(place_of(tree), number, ops),
         None => Err(fault(place_of(tree), LangWhy::UnknownName)),
     }
 }
@@ -197,82 +261,145 @@ fn query(
     parts: &[Tree],
     names: &[Named],
     ops: &[OpHead],
-) -> Result<Step, LangFault> {
+) -> Result<Step, LangFault>
+    ensures { Gives result (query at parts.now names.now ops.now) }
+{
     match parts {
-        [x, op, args @ ..] => {
-            let seen = target(x, names)?;
-            let number = op_of(op, ops)?;
-            match ops.get(number) {
-                Some(head) => asked(alloc, at, place_of(x), seen, number, head, args, names),
-                None => Err(fault(place_of(op), LangWhy::UnknownName)),
-            }
-        }
+        [x, op, args @ ..] => queried(alloc, at, x, op, args, names, ops),
         _ => Err(fault(at, LangWhy::Form)),
     }
 }
 
-/// A query of the operation with a head, whose reply goes to the target.
+/// The fault of a target, or one that stands behind it.
+fn earlier(target: Result<Seen, LangFault>, behind: LangFault) -> LangFault
+    ensures { result ≡ earlier behind.why target behind }
+{
+    match behind.why {
+        LangWhy::Memory => behind,
+        _ => match target {
+            Ok(_) => behind,
+            Err(first) => first,
+        },
+    }
+}
+
+/// A query of the operation that a tree names.
+fn queried(
+    alloc: Global,
+    at: Place,
+    x: &Tree,
+    op: &Tree,
+    args: &[Tree],
+    names: &[Named],
+    ops: &[OpHead],
+) -> Result<Step, LangFault>
+    ensures { Gives result (queried at x.now args.now names.now (op_of op.now ops.now)) }
+{
+    match op_of(op, ops) {
+        Ok((number, head)) => asked(alloc, at, x, number, head, args, names),
+        Err(behind) => Err(earlier(target(x, names), behind)),
+    }
+}
+
+/// A query of the operation with a head.
 fn asked(
     alloc: Global,
     at: Place,
-    target_at: Place,
-    target: Seen,
+    x: &Tree,
     number: usize,
     head: &OpHead,
     args: &[Tree],
     names: &[Named],
-) -> Result<Step, LangFault> {
+) -> Result<Step, LangFault>
+    ensures { Gives result (asked at x.now number head.now args.now names.now) }
+{
     if args.len() != head.args.len() {
         return Err(fault(at, LangWhy::Arity));
     }
-    let values = values_of(alloc, at, args, head.args.as_slice(), names)?;
-    if target.width != head.result {
-        return Err(fault(target_at, LangWhy::Width));
-    }
-    match u32::try_from(number) {
-        Ok(number) => Ok(Step {
-            stmt: Stmt::Query(target.slot, number, values.exprs),
-            cost: values.cost.saturating_add(1),
-        }),
-        Err(_) => Err(fault(at, LangWhy::Bound)),
+    match values_of(alloc, args, names) {
+        Ok(values) => given(at, x, number, head, values, names),
+        Err(behind) => Err(earlier(reply(x, head.result, names), behind)),
     }
 }
 
-/// Expressions in order, and their cost.
+/// A query with these arguments.
+fn given(
+    at: Place,
+    x: &Tree,
+    number: usize,
+    head: &OpHead,
+    values: Values,
+    names: &[Named],
+) -> Result<Step, LangFault>
+    ensures { Gives result (given at (reply x.now head.now.result names.now) number head.now (Ok values)) }
+{
+    if !suit(values.widths.as_slice(), head.args.as_slice()) {
+        return Err(fault(at, LangWhy::Width));
+    }
+    let seen = reply(x, head.result, names)?;
+    match u32::try_from(number) {
+        Ok(number) => Ok(Step {
+            stmt: Stmt::Query(seen.slot, number, values.exprs),
+            cost: values.cost.saturating_add(1),
+        }),
+        Err(_) => Err(LangFault::from(AllocError)),
+    }
+}
+
+/// The target of a reply.
+fn reply(x: &Tree, width: u8, names: &[Named]) -> Result<Seen, LangFault>
+    ensures { Gives result (reply x.now width names.now) }
+{
+    let seen = target(x, names)?;
+    if seen.width == width {
+        Ok(seen)
+    } else {
+        Err(fault(place_of(x), LangWhy::Width))
+    }
+}
+
+/// Expressions in order, their widths, and the sum of their costs.
 #[derive(Drop)]
 struct Values {
     exprs: Items<Expr>,
+    widths: Items<u8>,
     cost: u64,
 }
 
-/// The arguments of an operation, whose list is at the place.
-fn values_of(
-    alloc: Global,
-    at: Place,
-    trees: &[Tree],
-    args: &[(Items<u8>, u8)],
-    names: &[Named],
-) -> Result<Values, LangFault> {
+/// The arguments of a query.
+fn values_of(alloc: Global, trees: &[Tree], names: &[Named]) -> Result<Values, LangFault>
+    ensures { Gives result (values_of names.now trees.now) }
+{
     let mut exprs = Items::new(alloc);
+    let mut widths = Items::new(alloc);
     let mut cost: u64 = 0;
-    let mut fits = true;
-    for (k, tree) in trees.iter().enumerate() {
+    for tree in trees {
         let x = expr(alloc, tree, names)?;
-        fits = fits && has_width(args, k, x.width);
         cost = cost.saturating_add(x.cost);
+        widths.push(x.width)?;
         exprs.push(x.expr)?;
     }
-    if fits {
-        Ok(Values { exprs, cost })
-    } else {
-        Err(fault(at, LangWhy::Width))
-    }
+    Ok(Values {
+        exprs,
+        widths,
+        cost,
+    })
 }
 
-/// Is this the width of an argument?
-fn has_width(args: &[(Items<u8>, u8)], k: usize, width: u8) -> bool {
-    match args.get(k) {
-        Some(arg) => arg.1 == width,
-        None => false,
+/// Are these the widths of the arguments of an operation?
+fn suit(widths: &[u8], args: &[(Items<u8>, u8)]) -> bool
+    ensures { result ≡ suit widths.now args.now }
+{
+    let mut left = widths;
+    let mut right = args;
+    while let Some((width, more)) = left.split_first() {
+        match right.split_first() {
+            Some((arg, others)) if *width == arg.1 => {
+                left = more;
+                right = others;
+            }
+            _ => return false,
+        }
     }
+    right.is_empty()
 }
