@@ -1,0 +1,4 @@
+mod Values
+mod Plain
+mod Meaning
+mod Rows
