@@ -64,12 +64,15 @@ assign at ts names = fails at Form
 abbrev pub if_of : Typed → Steps → Steps → Step
 if_of test first second = step (stmts.If test.expr first.stmts second.stmts) (dearer (dearer test.cost (max first.cost second.cost)) 1)
 
-abbrev pub branch : Home → Place → List StmtPart → List Named → List OpHead → Result Step LangFault
-branch home at (e ∷ a ∷ b ∷ []) names ops = do
-  test ← expr_of_width e.tree 1 names
+abbrev pub branched : Home → Tree → StmtPart → StmtPart → List Named → List OpHead → Result Step LangFault
+branched home e a b names ops = do
+  test ← expr_of_width e 1 names
   first ← a.block home names ops
   second ← b.block home names ops
   Ok (if_of test first second)
+
+abbrev pub branch : Home → Place → List StmtPart → List Named → List OpHead → Result Step LangFault
+branch home at (e ∷ a ∷ b ∷ []) names ops = branched home e.tree a b names ops
 branch home at parts names ops = fails at Form
 
 -- ---- (query x op e ..)

@@ -1,7 +1,7 @@
 //! Statements and bodies.
 ghost use Rattle.std.specs.Prelude.{◌≡◌, map, slice_get, Ok};
 ghost use Rattle.expr_read.specs.Views.{Gives, Sees};
-ghost use Rattle.lang_read.specs.Statements.{stmt_part, in_tick, keyword_in, keyword_of, assign, assigned, if_of, branch, values_of, suit, reply, given, asked, head_at, op_of, queried, query, earlier, form, begun, stmt_of, inner_of, block_of};
+ghost use Rattle.lang_read.specs.Statements.{stmt_part, in_tick, keyword_in, keyword_of, assign, assigned, if_of, branched, branch, values_of, suit, reply, given, asked, head_at, op_of, queried, query, earlier, form, begun, stmt_of, inner_of, block_of};
 
 use expr_read::{
     LangFault, LangWhy, Named, Seen, Typed, expr, expr_of_width, fault, op_number, place_of,
@@ -192,6 +192,25 @@ fn if_of(test: Typed, first: Steps, second: Steps) -> Step
     }
 }
 
+/// A test, and the statements for either outcome.
+#[cycle(statements)]
+fn branched(
+    alloc: Global,
+    home: Home,
+    e: &Tree,
+    a: &Tree,
+    b: &Tree,
+    names: &[Named],
+    ops: &[OpHead],
+) -> Result<Step, LangFault>
+    ensures { Gives result (branched home e.now (stmt_part a.now) (stmt_part b.now) names.now ops.now) }
+{
+    let test = expr_of_width(alloc, e, 1, names)?;
+    let first = inner(alloc, home, a, names, ops)?;
+    let second = inner(alloc, home, b, names, ops)?;
+    Ok(if_of(test, first, second))
+}
+
 /// `(if e (stmt ..) (stmt ..))`.
 #[cycle(statements)]
 fn branch(
@@ -205,12 +224,7 @@ fn branch(
     ensures { Gives result (branch home at (map stmt_part parts.now) names.now ops.now) }
 {
     match parts {
-        [e, a, b] => {
-            let test = expr_of_width(alloc, e, 1, names)?;
-            let first = inner(alloc, home, a, names, ops)?;
-            let second = inner(alloc, home, b, names, ops)?;
-            Ok(if_of(test, first, second))
-        }
+        [e, a, b] => branched(alloc, home, e, a, b, names, ops),
         _ => Err(fault(at, LangWhy::Form)),
     }
 }

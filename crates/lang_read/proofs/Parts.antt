@@ -1,0 +1,108 @@
+-- What a tree means as a statement, and its parts as statements, at each shape of tree.
+use Rattle.std.proofs.Common.{◌≡◌, ℕ, ◌-◌, ◌≤◌, ◌<◌, List, [], ◌∷◌, length, get_or, take, drop, map, refl, sym, ap, ◌∙◌, arith, Result}
+use Rattle.std.specs.List.{AllByRecursion}
+use Rattle.std.proofs.lemmas.List.{take_all}
+use Rattle.knox_text.specs.declared.place.Place.{Place}
+use Rattle.knox_lang.specs.declared.parts.OpHead.{OpHead}
+use Rattle.knox_sexpr.specs.declared.tree.Tree.{Tree, roll-Tree, fold-roll-Tree}
+use Rattle.knox_sexpr.specs.declared.tree.Tree.TheVariants as trees
+use Rattle.knox_sexpr.specs.declared.tree.Tree.TheOpen.{Tree-F}
+use Rattle.knox_sexpr.proofs.Meaning.{by_parts}
+use Rattle.expr_read.specs.declared.names.Named.{Named}
+use Rattle.expr_read.specs.declared.faults.LangFault.{LangFault}
+use Rattle.expr_read.specs.declared.faults.LangWhy.TheVariants.{Form}
+use Rattle.expr_read.specs.Views.{◌>>=◌, fails, each}
+use Rattle.lang_read.specs.declared.statement.Home.{Home}
+use Rattle.lang_read.specs.declared.statement.Keyword.{Keyword}
+use Rattle.lang_read.specs.declared.statement.Keyword.TheVariants.{Assign, Query}
+use Rattle.lang_read.specs.declared.statement.Step.{Step}
+use Rattle.lang_read.specs.declared.statement.Steps.{Steps}
+use Rattle.lang_read.specs.Statements.{StmtPart, tree_in, stmt_level, stmt_reading, stmt_block, stmt_part, stmt_of, inner_of, block_of, steps_in, and_step, no_steps, keyword_of, form, begun, assign, branched, branch, query}
+
+abbrev at_top : Tree-F StmtPart → Tree → StmtPart
+at_top y t = record { tree = t; reading = stmt_reading y; block = stmt_block y }
+
+pub part-Atom : (at : Place) (name : List ℕ) → stmt_part (trees.Atom at name) ≡ at_top (Tree-F.Atom at name) (roll-Tree (Tree-F.Atom at name))
+unfolding stmt_part
+part-Atom at name = ap stmt_part (sym (trees.rolls-Atom at name)) ∙ fold-roll-Tree StmtPart stmt_level (Tree-F.Atom at name)
+
+pub part-Number : (at : Place) (width value : ℕ) → stmt_part (trees.Number at width value) ≡ at_top (Tree-F.Number at width value) (roll-Tree (Tree-F.Number at width value))
+unfolding stmt_part
+part-Number at width value = ap stmt_part (sym (trees.rolls-Number at width value)) ∙ fold-roll-Tree StmtPart stmt_level (Tree-F.Number at width value)
+
+pub part-List : (at close : Place) (ts : List Tree) → stmt_part (trees.List at ts close) ≡ at_top (Tree-F.List at (map stmt_part ts) close) (roll-Tree (Tree-F.List at (map tree_in (map stmt_part ts)) close))
+unfolding stmt_part
+part-List at close ts = ap stmt_part (sym (trees.rolls-List at ts close)) ∙ fold-roll-Tree StmtPart stmt_level (Tree-F.List at ts close)
+
+abbrev Kept : Tree → Type 0
+Kept t = (stmt_part t).tree ≡ t
+
+kept-among : (ts : List Tree) → AllByRecursion Kept ts → map tree_in (map stmt_part ts) ≡ ts
+kept-among [] all = refl
+kept-among (t ∷ ts) all = cc (all.0, kept-among ts all.1)
+
+-- a part keeps its tree
+pub tree-part : (t : Tree) → (stmt_part t).tree ≡ t
+tree-part = by_parts Kept
+    (λ at name. ap tree_in (part-Atom at name) ∙ trees.rolls-Atom at name)
+    (λ at width value. ap tree_in (part-Number at width value) ∙ trees.rolls-Number at width value)
+    (λ at close ts all. ap tree_in (part-List at close ts) ∙ ap (λ (us : List Tree). roll-Tree (Tree-F.List at us close)) (kept-among ts all) ∙ trees.rolls-List at ts close)
+
+trees-kept : (ts : List Tree) → map tree_in (map stmt_part ts) ≡ ts
+trees-kept [] = refl
+trees-kept (t ∷ ts) = cc (tree-part t, trees-kept ts)
+
+-- ---- statements
+
+pub stmt-Atom : (home : Home) (t : Tree) (at : Place) (name : List ℕ) (names : List Named) (ops : List OpHead) → t ≡ trees.Atom at name → stmt_of home t names ops ≡ fails at Form
+stmt-Atom home t at name names ops e = ap (λ (u : Tree). stmt_of home u names ops) e ∙ ap (λ (p : StmtPart). p.reading home names ops) (part-Atom at name)
+
+pub stmt-Number : (home : Home) (t : Tree) (at : Place) (width value : ℕ) (names : List Named) (ops : List OpHead) → t ≡ trees.Number at width value → stmt_of home t names ops ≡ fails at Form
+stmt-Number home t at width value names ops e = ap (λ (u : Tree). stmt_of home u names ops) e ∙ ap (λ (p : StmtPart). p.reading home names ops) (part-Number at width value)
+
+pub stmt-List : (home : Home) (t : Tree) (at close : Place) (ts : List Tree) (names : List Named) (ops : List OpHead) → t ≡ trees.List at ts close → begun home at (map stmt_part ts) names ops ≡ stmt_of home t names ops
+stmt-List home t at close ts names ops e = sym (ap (λ (u : Tree). stmt_of home u names ops) e ∙ ap (λ (p : StmtPart). p.reading home names ops) (part-List at close ts))
+
+-- ---- lists of statements
+
+-- statements by parts are statements by trees
+pub each-part : (home : Home) (ts : List Tree) (names : List Named) (ops : List OpHead) (before : Steps) →
+    each (λ (s : Steps) (p : StmtPart). p.reading home names ops) and_step before (map stmt_part ts) ≡ each (λ (s : Steps) t. stmt_of home t names ops) and_step before ts
+unfolding each
+each-part home [] names ops before = refl
+each-part home (t ∷ ts) names ops before = ap (λ (k : Step → Result Steps LangFault). stmt_of home t names ops >>= k) (λ i x. each-part home ts names ops (and_step before x) i)
+
+pub inner-Atom : (home : Home) (t : Tree) (at : Place) (name : List ℕ) (names : List Named) (ops : List OpHead) → t ≡ trees.Atom at name → inner_of home t names ops ≡ fails at Form
+inner-Atom home t at name names ops e = ap (λ (u : Tree). inner_of home u names ops) e ∙ ap (λ (p : StmtPart). p.block home names ops) (part-Atom at name)
+
+pub inner-Number : (home : Home) (t : Tree) (at : Place) (width value : ℕ) (names : List Named) (ops : List OpHead) → t ≡ trees.Number at width value → inner_of home t names ops ≡ fails at Form
+inner-Number home t at width value names ops e = ap (λ (u : Tree). inner_of home u names ops) e ∙ ap (λ (p : StmtPart). p.block home names ops) (part-Number at width value)
+
+pub inner-List : (home : Home) (t : Tree) (at close : Place) (ts : List Tree) (names : List Named) (ops : List OpHead) → t ≡ trees.List at ts close → block_of home ts names ops ≡ inner_of home t names ops
+inner-List home t at close ts names ops e =
+    sym (ap (λ (u : Tree). inner_of home u names ops) e ∙ ap (λ (p : StmtPart). p.block home names ops) (part-List at close ts) ∙ each-part home ts names ops no_steps)
+
+-- the first part, and what follows it
+pub list-is : (home : Home) (at : Place) (ts : List Tree) (h : Tree) (names : List Named) (ops : List OpHead) → 1 ≤ length ts → h ≡ get_or ts 0 h → form home at (keyword_of home h) (map stmt_part (take (length ts - 1) (drop 1 ts))) names ops ≡ begun home at (map stmt_part ts) names ops
+list-is home at [] h names ops le e = absurd (omega arith)
+list-is home at (t ∷ ts) h names ops le e =
+    let rest : take (length (t ∷ ts) - 1) ts ≡ ts = take_all (length (t ∷ ts) - 1) ts (omega arith) in
+    rw rest (ap (λ (x : Tree). form home at (keyword_of home x) (map stmt_part ts) names ops) (e ∙ sym (tree-part t)))
+
+pub branch-is : (home : Home) (at : Place) (ts : List Tree) (e a b : Tree) (names : List Named) (ops : List OpHead) → 3 ≤ length ts → length ts < 4 → e ≡ get_or ts 0 e → a ≡ get_or ts 1 a → b ≡ get_or ts 2 b → branched home e (stmt_part a) (stmt_part b) names ops ≡ branch home at (map stmt_part ts) names ops
+branch-is home at [] e a b names ops le lt p q r = absurd (omega arith)
+branch-is home at (t ∷ []) e a b names ops le lt p q r = absurd (omega arith)
+branch-is home at (t ∷ u ∷ []) e a b names ops le lt p q r = absurd (omega arith)
+branch-is home at (t ∷ u ∷ v ∷ []) e a b names ops le lt p q r =
+    ap (λ (x : Tree). branched home x (stmt_part a) (stmt_part b) names ops) (p ∙ sym (tree-part t))
+    ∙ ap (λ (x : Tree). branched home (stmt_part t).tree (stmt_part x) (stmt_part b) names ops) q
+    ∙ ap (λ (x : Tree). branched home (stmt_part t).tree (stmt_part u) (stmt_part x) names ops) r
+branch-is home at (t ∷ u ∷ v ∷ w ∷ ts) e a b names ops le lt p q r = absurd (omega arith)
+
+pub assign-is : (home : Home) (at : Place) (word : Keyword) (ts : List Tree) (names : List Named) (ops : List OpHead) → word ≡ Assign → assign at ts names ≡ form home at word (map stmt_part ts) names ops
+assign-is home at word ts names ops e =
+    ap (λ (us : List Tree). assign at us names) (sym (trees-kept ts)) ∙ ap (λ (k : Keyword). form home at k (map stmt_part ts) names ops) (sym e)
+
+pub query-is : (home : Home) (at : Place) (word : Keyword) (ts : List Tree) (names : List Named) (ops : List OpHead) → word ≡ Query → query at ts names ops ≡ form home at word (map stmt_part ts) names ops
+query-is home at word ts names ops e =
+    ap (λ (us : List Tree). query at us names ops) (sym (trees-kept ts)) ∙ ap (λ (k : Keyword). form home at k (map stmt_part ts) names ops) (sym e)
