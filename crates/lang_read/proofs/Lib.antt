@@ -1,2 +1,3 @@
+mod Endings
 mod Faults
 mod Parts

@@ -1,8 +1,10 @@
 //! Specifications: `(spec (field x w n) .. (op x ((x w) ..) w (assign x e) .. (result e)) ..)`.
-ghost use Rattle.std.specs.Prelude.{◌≡◌, IfOk, true};
+ghost use Rattle.std.specs.Prelude.{◌≡◌, ◌≤◌, IfOk, OnOk, length, true};
 ghost use Rattle.knox_lang.specs.WellFormed.{spec_fits};
+ghost use Rattle.expr_read.specs.Views.{Gives};
+ghost use Rattle.lang_read.specs.Specifications.{result_in, result_of, bounded, op_body, args_of, nameless_op, op_name, earlier, op_of, named_op, cut_last, op_ending, op_in, operation, operations, spec_in, spec_parts, made, spec_of, spec_text};
 
-use crate::statement::{Home, MOST_COST, block};
+use crate::statement::{Home, MOST_COST, Steps, block};
 use expr_read::{
     LangFault, LangWhy, Named, Typed, arguments, behind_head, declare, expr_of_width, fault,
     field_names, fields_of, forget, headed_count, is_headed, no_more, op_number, parts_of,
@@ -13,6 +15,15 @@ use knox_sexpr::Tree;
 use knox_text::Place;
 use sqlite_items::Items;
 use std::alloc::Global;
+
+/// An operation without its name: the names and widths of its arguments, the width of its result,
+/// and its body.
+#[derive(Drop)]
+struct Nameless {
+    args: Items<(Items<u8>, u8)>,
+    result: u8,
+    body: Body,
+}
 
 /// An operation: its head, and its body.
 #[derive(Drop)]
@@ -28,116 +39,236 @@ struct OpList {
     bodies: Items<Body>,
 }
 
-/// The expression of `(result e)`, of the width that is wanted.
-fn result_of(alloc: Global, tree: &Tree, width: u8, names: &[Named]) -> Result<Typed, LangFault> {
-    match parts_of(tree)? {
+/// The expression of the parts of a result, whose list is at the place.
+fn result_in(
+    alloc: Global,
+    at: Place,
+    width: u8,
+    names: &[Named],
+    parts: &[Tree],
+) -> Result<Typed, LangFault>
+    ensures { Gives result (result_in at width names.now parts.now) }
+{
+    match parts {
         [_, e] => expr_of_width(alloc, e, width, names),
-        _ => Err(fault(place_of(tree), LangWhy::Form)),
+        _ => Err(fault(at, LangWhy::Form)),
     }
+}
+
+/// The expression of `(result e)`, of the width that is wanted.
+fn result_of(alloc: Global, tree: &Tree, width: u8, names: &[Named]) -> Result<Typed, LangFault>
+    ensures { Gives result (result_of tree.now width names.now) }
+{
+    let parts = parts_of(tree)?;
+    result_in(alloc, place_of(tree), width, names, parts)
+}
+
+/// The body of an operation whose list is at the place, if it isn't too dear.
+fn bounded(alloc: Global, at: Place, steps: Steps, value: Typed) -> Result<Body, LangFault>
+    ensures { Gives result (bounded at steps value) }
+{
+    if steps.cost.saturating_add(value.cost) > MOST_COST {
+        return Err(fault(at, LangWhy::Bound));
+    }
+    Ok(Body {
+        locals: Items::new(alloc),
+        stmts: steps.stmts,
+        result: Some(value.expr),
+    })
 }
 
 /// The statements and the result of an operation, whose list is at the place.
 fn op_body(
     alloc: Global,
     at: Place,
+    names: &[Named],
+    width: u8,
     stmts: &[Tree],
     last: &Tree,
-    width: u8,
-    names: &[Named],
-) -> Result<Body, LangFault> {
-    let block = block(alloc, Home::Operation, stmts, names, &[])?;
+) -> Result<Body, LangFault>
+    ensures { Gives result (op_body at names.now width stmts.now last.now) }
+{
+    let steps = block(alloc, Home::Operation, stmts, names, &[])?;
     let value = result_of(alloc, last, width, names)?;
-    if block.cost.saturating_add(value.cost) > MOST_COST {
-        return Err(fault(at, LangWhy::Bound));
-    }
-    Ok(Body {
-        locals: Items::new(alloc),
-        stmts: block.stmts,
-        result: Some(value.expr),
-    })
+    bounded(alloc, at, steps, value)
+}
+
+/// The arguments `((x w) ..)`.
+fn args_of(alloc: Global, tree: &Tree) -> Result<Items<(Items<u8>, u8)>, LangFault>
+    ensures { Gives result (args_of tree.now) }
+{
+    let parts = parts_of(tree)?;
+    arguments(alloc, parts)
+}
+
+/// The arguments, the width and the body of an operation whose list is at the place. The names are
+/// the fields, here and afterwards.
+fn nameless_op(
+    alloc: Global,
+    at: Place,
+    names: &mut Items<Named>,
+    args: &Tree,
+    w: &Tree,
+    stmts: &[Tree],
+    last: &Tree,
+) -> Result<Nameless, LangFault>
+    ensures read { Gives result (nameless_op at names.old args.now w.now stmts.now last.now) }
+    ensures fields { OnOk result (names.new ≡ names.old) }
+{
+    let args = args_of(alloc, args)?;
+    let result = width_of(w)?;
+    let fields = names.len();
+    declare(alloc, Space::Arg, args.as_slice(), names)?;
+    let body = op_body(alloc, at, names.as_slice(), result, stmts, last)?;
+    forget(names, fields);
+    Ok(Nameless { args, result, body })
 }
 
 /// The name of an operation, which none before has.
-fn op_name(alloc: Global, tree: &Tree, known: &[OpHead]) -> Result<Items<u8>, LangFault> {
+fn op_name(alloc: Global, tree: &Tree, known: &[OpHead]) -> Result<Items<u8>, LangFault>
+    ensures { Gives result (op_name known.now tree.now) }
+{
     let name = symbol_of(tree)?;
     if op_number(name, known).is_some() {
         return Err(fault(place_of(tree), LangWhy::Twice));
     }
-    Ok(Items::from_slice(alloc, name)?)
+    let name = Items::from_slice(alloc, name)?;
+    Ok(name)
 }
 
-/// The name, the arguments and the width of the result.
-fn op_head(
+/// The fault of a name, or one that stands behind it or is one of the whole operation.
+fn earlier(name: Result<Items<u8>, LangFault>, behind: LangFault) -> LangFault
+    ensures { result ≡ earlier behind.why name behind }
+{
+    match behind.why {
+        LangWhy::Memory => behind,
+        LangWhy::Bound => behind,
+        _ => match name {
+            Ok(_) => behind,
+            Err(first) => first,
+        },
+    }
+}
+
+fn op_of(name: Items<u8>, op: Nameless) -> OpParts
+    ensures { result ≡ op_of name op }
+{
+    OpParts {
+        head: OpHead {
+            name,
+            args: op.args,
+            result: op.result,
+        },
+        body: op.body,
+    }
+}
+
+/// The operation whose name is a tree, and whose list is at the place.
+fn named_op(
     alloc: Global,
+    at: Place,
+    known: &[OpHead],
+    names: &mut Items<Named>,
     x: &Tree,
     args: &Tree,
     w: &Tree,
+    stmts: &[Tree],
+    last: &Tree,
+) -> Result<OpParts, LangFault>
+    ensures read { Gives result (named_op (op_name known.now x.now) (nameless_op at names.old args.now w.now stmts.now last.now)) }
+    ensures fields { OnOk result (names.new ≡ names.old) }
+{
+    let name = op_name(alloc, x, known);
+    match nameless_op(alloc, at, names, args, w, stmts, last) {
+        Ok(op) => {
+            let name = name?;
+            Ok(op_of(name, op))
+        }
+        Err(behind) => Err(earlier(name, behind)),
+    }
+}
+
+/// The operation whose statements and result are the last of its parts.
+fn op_ending(
+    alloc: Global,
+    at: Place,
     known: &[OpHead],
-) -> Result<OpHead, LangFault> {
-    let name = op_name(alloc, x, known)?;
-    let args = arguments(alloc, parts_of(args)?)?;
-    let result = width_of(w)?;
-    Ok(OpHead { name, args, result })
+    names: &mut Items<Named>,
+    x: &Tree,
+    args: &Tree,
+    w: &Tree,
+    ending: &[Tree],
+) -> Result<OpParts, LangFault>
+    ensures read { Gives result (op_ending at known.now names.old x.now args.now w.now (cut_last ending.now)) }
+    ensures fields { OnOk result (names.new ≡ names.old) }
+{
+    match ending {
+        [stmts @ .., last] => {
+            if !is_headed(last, b"result") {
+                return Err(fault(at, LangWhy::Form));
+            }
+            named_op(alloc, at, known, names, x, args, w, stmts, last)
+        }
+        [] => Err(fault(at, LangWhy::Form)),
+    }
 }
 
 /// `(op x ((x w) ..) w stmt .. (result e))`. The names are the fields, here and afterwards.
+fn op_in(
+    alloc: Global,
+    at: Place,
+    known: &[OpHead],
+    names: &mut Items<Named>,
+    parts: &[Tree],
+) -> Result<OpParts, LangFault>
+    ensures read { Gives result (op_in at known.now names.old parts.now) }
+    ensures fields { OnOk result (names.new ≡ names.old) }
+{
+    match parts {
+        [_, x, args, w, ending @ ..] => op_ending(alloc, at, known, names, x, args, w, ending),
+        _ => Err(fault(at, LangWhy::Form)),
+    }
+}
+
+/// The operation of a tree.
 fn operation(
     alloc: Global,
     tree: &Tree,
     known: &[OpHead],
     names: &mut Items<Named>,
-) -> Result<OpParts, LangFault> {
-    let at = place_of(tree);
-    match parts_of(tree)? {
-        [_, x, args, w, stmts @ .., last] => {
-            if !is_headed(last, b"result") {
-                return Err(fault(at, LangWhy::Form));
-            }
-            let head = op_head(alloc, x, args, w, known)?;
-            let fields = names.len();
-            declare(alloc, Space::Arg, head.args.as_slice(), names)?;
-            let body = op_body(alloc, at, stmts, last, head.result, names.as_slice())?;
-            forget(names, fields);
-            Ok(OpParts { head, body })
-        }
-        _ => Err(fault(at, LangWhy::Form)),
+) -> Result<OpParts, LangFault>
+    ensures read { Gives result (operation names.old known.now tree.now) }
+    ensures fields { OnOk result (names.new ≡ names.old) }
+{
+    if !is_headed(tree, b"op") {
+        return Err(fault(place_of(tree), LangWhy::Form));
     }
+    let parts = parts_of(tree)?;
+    op_in(alloc, place_of(tree), known, names, parts)
 }
 
-fn named_operation(
-    alloc: Global,
-    tree: &Tree,
-    known: &[OpHead],
-    names: &mut Items<Named>,
-) -> Result<OpParts, LangFault> {
-    if is_headed(tree, b"op") {
-        operation(alloc, tree, known, names)
-    } else {
-        Err(fault(place_of(tree), LangWhy::Form))
-    }
-}
-
-fn operations(
-    alloc: Global,
-    trees: &[Tree],
-    names: &mut Items<Named>,
-) -> Result<OpList, LangFault> {
+/// Operations in order. The names are the fields, here and afterwards.
+fn operations(alloc: Global, trees: &[Tree], names: &mut Items<Named>) -> Result<OpList, LangFault>
+    ensures { Gives result (operations names.old trees.now) }
+{
     let mut heads = Items::new(alloc);
     let mut bodies = Items::new(alloc);
     for tree in trees {
-        let op = named_operation(alloc, tree, heads.as_slice(), names)?;
+        let op = operation(alloc, tree, heads.as_slice(), names)?;
         heads.push(op.head)?;
         bodies.push(op.body)?;
     }
     Ok(OpList { heads, bodies })
 }
 
-fn spec_parts(alloc: Global, tree: &Tree) -> Result<SpecParts, LangFault> {
-    let parts = behind_head(tree, b"spec")?;
-    let count = headed_count(parts, b"field");
-    let fields = fields_of(alloc, &parts[..count])?;
+/// The parts of a specification, whose fields are the trees before the place among them.
+fn spec_in(alloc: Global, count: usize, trees: &[Tree]) -> Result<SpecParts, LangFault>
+    requires { count ≤ length trees.now }
+    ensures { Gives result (spec_in count trees.now) }
+{
+    let fields = fields_of(alloc, &trees[..count])?;
     let mut names = field_names(alloc, fields.fields.as_slice())?;
-    let ops = operations(alloc, &parts[count..], &mut names)?;
+    let ops = operations(alloc, &trees[count..], &mut names)?;
     Ok(SpecParts {
         fields: fields.fields,
         init: fields.init,
@@ -147,21 +278,37 @@ fn spec_parts(alloc: Global, tree: &Tree) -> Result<SpecParts, LangFault> {
     })
 }
 
+fn spec_parts(alloc: Global, tree: &Tree) -> Result<SpecParts, LangFault>
+    ensures { Gives result (spec_parts tree.now) }
+{
+    let parts = behind_head(tree, b"spec")?;
+    let count = headed_count(parts, b"field");
+    spec_in(alloc, count, parts)
+}
+
+/// The specification of these parts, whose list is at the place.
+fn made(at: Place, parts: SpecParts) -> Result<SpecProgram, LangFault>
+    ensures { Gives result (made at parts) }
+{
+    match SpecProgram::new(parts) {
+        Some(spec) => Ok(spec),
+        None => Err(fault(at, LangWhy::Width)),
+    }
+}
+
 /// The specification of a tree, where other trees follow.
 fn spec_of(alloc: Global, tree: &Tree, more: &[Tree]) -> Result<SpecProgram, LangFault>
-    ensures fits { IfOk result (λ p. spec_fits p ≡ true) }
+    ensures { Gives result (spec_of tree.now more.now) }
 {
     let parts = spec_parts(alloc, tree)?;
     no_more(more)?;
-    match SpecProgram::new(parts) {
-        Some(spec) => Ok(spec),
-        None => Err(fault(place_of(tree), LangWhy::Width)),
-    }
+    made(place_of(tree), parts)
 }
 
 /// The specification that the trees of a text mean, where the text ends at a place. Read today are
 /// fields of one word and operations with `assign`, and widths up to 8.
 pub fn read_spec(alloc: Global, trees: &[Tree], end: Place) -> Result<SpecProgram, LangFault>
+    ensures read { Gives result (spec_text end trees.now) }
     ensures fits { IfOk result (λ p. spec_fits p ≡ true) }
 {
     match trees.split_first() {
