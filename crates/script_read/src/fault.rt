@@ -1,10 +1,9 @@
 //! What is wrong with a text of hints, and where.
 ghost use Rattle.std.specs.Prelude.{◌≡◌};
-ghost use Rattle.script_read.specs.declared.fault.ScriptWhy.TheVariants.{Memory};
+ghost use Rattle.script_read.specs.Faults.{why_of, script_fault};
 
-use knox_text::Place;
 use expr_read::{LangFault, LangWhy};
-use std::alloc::AllocError;
+use knox_text::Place;
 
 /// What is wrong at a place.
 #[derive(Clone, Copy, Debug, PartialEq, Eq)]
@@ -34,18 +33,9 @@ pub struct ScriptFault {
     pub why: ScriptWhy,
 }
 
-impl From<AllocError> for ScriptFault {
-    ghost from_gives = { λ _ fault. fault ≡ record { place = record { line = 1; column = 1 }; why = Memory } };
-
-    fn from(_e: AllocError) -> ScriptFault {
-        ScriptFault {
-            place: Place { line: 1, column: 1 },
-            why: ScriptWhy::Memory,
-        }
-    }
-}
-
-fn why_of(why: LangWhy) -> ScriptWhy {
+fn why_of(why: LangWhy) -> ScriptWhy
+    ensures { result ≡ why_of why }
+{
     match why {
         LangWhy::Form => ScriptWhy::Form,
         LangWhy::UnknownName => ScriptWhy::UnknownName,
@@ -58,17 +48,12 @@ fn why_of(why: LangWhy) -> ScriptWhy {
     }
 }
 
-impl From<LangFault> for ScriptFault {
-    fn from(fault: LangFault) -> ScriptFault {
-        ScriptFault {
-            place: fault.place,
-            why: why_of(fault.why),
-        }
-    }
-}
-
-pub(crate) fn fault(place: Place, why: ScriptWhy) -> ScriptFault
-    ensures { result ≡ record { place = place; why = why } }
+/// A fault of the languages as one of hints.
+pub(crate) fn script_fault(fault: LangFault) -> ScriptFault
+    ensures { result ≡ script_fault fault }
 {
-    ScriptFault { place, why }
+    ScriptFault {
+        place: fault.place,
+        why: why_of(fault.why),
+    }
 }

@@ -3,8 +3,11 @@
 #![tactic(auto)]
 
 mod fault;
+mod item;
+mod laws;
+mod scope;
 mod script;
-mod wire;
 
 pub use fault::{ScriptFault, ScriptWhy};
+pub use laws::texts_mean_scripts;
 pub use script::read_script;
