@@ -1,5 +1,5 @@
 -- The last of a list and those before it.
-use Rattle.std.proofs.Common.{◌≡◌, ℕ, suc, ◌+◌, ◌-◌, ◌≤◌, List, [], ◌∷◌, length, get_or, take, refl, sym, ap, ◌∙◌, arith, Some}
+use Rattle.std.proofs.Common.{◌≡◌, ℕ, suc, ◌-◌, ◌≤◌, List, [], ◌∷◌, length, get_or, take, refl, sym, ap, ◌∙◌, arith, Some}
 use Rattle.knox_sexpr.specs.declared.tree.Tree.{Tree}
 use Rattle.lang_read.specs.Specifications.{and_front, cut_last}
 

@@ -17,7 +17,7 @@ use Rattle.lang_read.specs.declared.statement.Keyword.{Keyword}
 use Rattle.lang_read.specs.declared.statement.Keyword.TheVariants.{Assign, Query}
 use Rattle.lang_read.specs.declared.statement.Step.{Step}
 use Rattle.lang_read.specs.declared.statement.Steps.{Steps}
-use Rattle.lang_read.specs.Statements.{StmtPart, tree_in, stmt_level, stmt_reading, stmt_block, stmt_part, stmt_of, inner_of, block_of, steps_in, and_step, no_steps, keyword_of, form, begun, assign, branched, branch, query}
+use Rattle.lang_read.specs.Statements.{StmtPart, tree_in, stmt_level, stmt_reading, stmt_block, stmt_part, stmt_of, inner_of, block_of, and_step, no_steps, keyword_of, form, begun, assign, branched, branch, query}
 
 abbrev at_top : Tree-F StmtPart → Tree → StmtPart
 at_top y t = record { tree = t; reading = stmt_reading y; block = stmt_block y }

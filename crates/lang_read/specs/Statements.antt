@@ -1,9 +1,8 @@
 -- Which statements trees mean, with their cost, or the first fault. A fault that stands at a list
 -- comes before those inside it.
-use Rattle.std.specs.Prelude.{ℕ, ◌+◌, ◌==◌, max, Bool, true, false, if◌then◌else◌, List, [], ◌∷◌, map, length, slice_get, codes, Option, Some, None, Result, Ok, Err}
+use Rattle.std.specs.Prelude.{ℕ, ◌==◌, max, Bool, true, false, if◌then◌else◌, List, [], ◌∷◌, map, length, slice_get, codes, Option, Some, None, Result, Ok, Err}
 use Rattle.std.specs.Str.{bytes_eq}
 use Rattle.knox_text.specs.declared.place.Place.{Place}
-use Rattle.knox_lang.specs.declared.expr.Expr.{Expr}
 use Rattle.knox_lang.specs.declared.expr.Stmt.{Stmt}
 use Rattle.knox_lang.specs.declared.expr.Stmt.TheVariants as stmts
 use Rattle.knox_lang.specs.declared.parts.OpHead.{OpHead}

@@ -1,10 +1,10 @@
-use Rattle.std.proofs.Common.{◌≡◌, ◌<◌, ◌+◌, ◌-◌, ◌*◌, ◌∙◌, ap, arith, rules, length, take, drop, subst, ℕ, List, Ok, Result}
+use Rattle.std.proofs.Common.{◌≡◌, ◌<◌, ◌+◌, ◌*◌, ◌∙◌, ap, arith, rules, subst, ℕ, List, Result}
 use Rattle.std.proofs.lemmas.Result.{err_from_is_err_and}
 use Rattle.knox_lang.specs.declared.expr.Stmt.{Stmt}
 use Rattle.expr_read.specs.declared.faults.LangFault.{LangFault}
 use Rattle.expr_read.specs.declared.faults.LangWhy.TheVariants.{Form}
 use Rattle.expr_read.specs.Views.{Gives}
-use Rattle.expr_read.proofs.Weights.{weight, weights, weight-List, weight-at, weight-behind}
+use Rattle.expr_read.proofs.Weights.{weight, weights, weight-List, weight-at}
 use Rattle.expr_read.proofs.Lists.{each-fails, each-goes, each-ends}
 use Rattle.lang_read.specs.declared.statement.Step.{Step}
 use Rattle.lang_read.specs.declared.statement.Steps.{Steps}

@@ -1,7 +1,6 @@
-use Rattle.std.proofs.Common.{◌≡◌, ℕ, List, Ok}
+use Rattle.std.proofs.Common.{ℕ, List}
 use Rattle.std.proofs.lemmas.Result.{err_from_is_err_and}
 use Rattle.knox_lang.specs.declared.expr.Expr.{Expr}
-use Rattle.expr_read.specs.Views.{Fails}
 use Rattle.expr_read.specs.Expressions.{expr_of}
 use Rattle.expr_read.proofs.Lists.{each-fails, each-goes, each-ends}
 use Rattle.lang_read.specs.declared.statement.Values.{Values}
