@@ -2,3 +2,6 @@ mod Values
 mod Plain
 mod Meaning
 mod Rows
+mod Hinting
+mod Shut
+mod Leaking

@@ -22,21 +22,21 @@ use Rattle.pin_store.specs.Store.{spec, emulator, set_body, check_body, device, 
 use Rattle.pin_store.proofs.Plain.{reply, fields_after, outs, tick, args_of, plain_device, plain_design}
 use Rattle.pin_store.proofs.Values.{value-Lit, value-Name, value-Bin, talk-Assign, talk-If, talk-Query, does-Assign}
 
-abbrev calls : Calls
+abbrev pub calls : Calls
 calls = called []
 
 -- ---- expressions
 
-abbrev slot_value : Space → ℕ → Value
+abbrev pub slot_value : Space → ℕ → Value
 slot_value s n sc = named sc (record { space = s; number = n })
 
-name-is : (s : Space) (n : ℕ) → eval calls (name s n) ≡ slot_value s n
+pub name-is : (s : Space) (n : ℕ) → eval calls (name s n) ≡ slot_value s n
 name-is s n = value-Name calls (record { space = s; number = n })
 
-bin-is : (o : Op2) (a b : Expr) (v w : Value) → eval calls a ≡ v → eval calls b ≡ w → eval calls (expr.Bin o a b) ≡ (λ sc. op2_or o (v sc) (w sc))
+pub bin-is : (o : Op2) (a b : Expr) (v w : Value) → eval calls a ≡ v → eval calls b ≡ w → eval calls (expr.Bin o a b) ≡ (λ sc. op2_or o (v sc) (w sc))
 bin-is o a b v w p q = value-Bin calls o a b ∙ (λ i sc. op2_or o (p i sc) (q i sc))
 
-names-equal : (s t : Space) (m n : ℕ) → eval calls (equal (name s m) (name t n)) ≡ (λ sc. op2_or Eq (slot_value s m sc) (slot_value t n sc))
+pub names-equal : (s t : Space) (m n : ℕ) → eval calls (equal (name s m) (name t n)) ≡ (λ sc. op2_or Eq (slot_value s m sc) (slot_value t n sc))
 names-equal s t m n = bin-is Eq (name s m) (name t n) (slot_value s m) (slot_value t n) (name-is s m) (name-is t n)
 
 abbrev command_value : ℕ → Value

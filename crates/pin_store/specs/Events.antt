@@ -47,6 +47,10 @@ store_answers = Nothing ∷ (showing 0 0 ++ (showing 0 1 ++ (showing 1 0 ++ show
 abbrev pub leak_answers : List Answer
 leak_answers = Nothing ∷ (showing 1 0 ++ (showing 0 1 ++ (showing 1 1 ++ showing 1 1)))
 
+-- no command, and a read before a tick and after it
+abbrev pub first_leak : List Event
+first_leak = PowerWire [] ∷ tried 4 0 0
+
 -- ---- events that are malformed, or in a mode that doesn't answer them
 
 -- In Off: a call, a set, a read and a tick; a power event with a word of noise too many, behind which the device is off as before

@@ -1,2 +1,3 @@
 pub mod Store
 pub mod Events
+pub mod Hinted

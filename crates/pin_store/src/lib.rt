@@ -1,9 +1,15 @@
 //! The definitions at work on the PIN store and on its leaking variant: each clause is computed from the definitions alone.
-//! `worlds` has answers of both worlds.
+//! `worlds` has answers of both worlds, `runs` has runs of segments and what trying all choices says.
 #![tactic(auto)]
 
+mod parts;
+mod runs;
 mod worlds;
 
+pub use parts::parts_fit;
+pub use runs::{
+    leaks_are_told, leaks_fail, power_ons_run, scripts_are_closed, ticks_run, weak_cuts_fail,
+};
 pub use worlds::{
     guesses_are_answered, host_refuses, leaks_are_answered, off_refuses, secrets_are_kept,
     wires_refuse,
