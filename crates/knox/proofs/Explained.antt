@@ -9,7 +9,7 @@ use Rattle.knox_edge.specs.Counts.{Rose}
 use Rattle.knox_edge.specs.Texts.{Bytes, Reads}
 use Rattle.knox.specs.declared.status.Status.{Status}
 use Rattle.knox.specs.declared.status.Status.TheVariants.{WriteFault, Memory}
-use Rattle.knox.specs.declared.verdict.Verdict.TheVariants.{Yes, Undecided, TooWide}
+use Rattle.knox_verify.specs.declared.verdict.Verdict.TheVariants.{Yes, Undecided, TooWide}
 use Rattle.knox.specs.declared.outcome.Outcome.{Outcome}
 use Rattle.knox.specs.declared.outcome.Outcome.TheVariants.{NoCommand, UnbuiltCommand, Unread, Overlong, UnbuiltTexts, Judged, OutOfMemory}
 use Rattle.knox.specs.Reading.{ReadWhole, ReadUpTo}

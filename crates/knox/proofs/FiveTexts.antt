@@ -4,10 +4,10 @@ use Rattle.std.specs.List.{slice_get}
 use Rattle.std.specs.Option.{option_map, unwrap_or}
 use Rattle.std.proofs.lemmas.Option.{slice_get_past}
 use Rattle.knox_edge.specs.Texts.{Bytes, Named, limit}
-use Rattle.knox.specs.declared.verdict.Letter.{Letter}
-use Rattle.knox.specs.declared.verdict.Letter.TheVariants.{C, S, D, E, H}
+use Rattle.knox_verify.specs.declared.verdict.Letter.{Letter}
+use Rattle.knox_verify.specs.declared.verdict.Letter.TheVariants.{C, S, D, E, H}
 use Rattle.knox.specs.Reading.{Within, texts_of}
-use Rattle.knox.specs.Verdicts.{lettered}
+use Rattle.knox_verify.specs.Verdicts.{lettered}
 
 pub slice_get-drop : (xs : List Named) (n k : ℕ) → slice_get xs (n + k) ≡ slice_get (drop n xs) k
 slice_get-drop xs zero k = ap (slice_get xs) (zero-add k)

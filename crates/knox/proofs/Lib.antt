@@ -1,8 +1,0 @@
-pub mod Digits
-pub mod ReadSteps
-pub mod FiveTexts
-pub mod Written
-pub mod Verified
-pub mod Explained
-pub mod Deciding
-pub mod Agreed

@@ -8,7 +8,7 @@ use Rattle.std.specs.Result.{IfOk}
 use Rattle.knox_edge.specs.Texts.{Bytes, Reads, bytes_of}
 use Rattle.knox.specs.declared.outcome.Outcome.{Outcome}
 use Rattle.knox.specs.declared.outcome.Outcome.TheVariants.{NoCommand, UnbuiltCommand}
-use Rattle.knox.specs.declared.verdict.Verdict.{Verdict}
+use Rattle.knox_verify.specs.declared.verdict.Verdict.{Verdict}
 use Rattle.knox.specs.declared.judging.Unjudged.{Unjudged}
 use Rattle.knox.specs.declared.judging.Unjudged.TheVariants.{NotYet, Memory}
 use Rattle.knox.specs.Commands.{command_of}

@@ -7,8 +7,8 @@ use Rattle.knox.specs.declared.status.Status.{Status}
 use Rattle.knox.specs.declared.status.Status.TheVariants as status
 use Rattle.script_core.specs.declared.parts.HintNo.{HintNo}
 use Rattle.script_core.specs.declared.parts.Choices.{Choices}
-use Rattle.knox.specs.declared.verdict.Verdict.{Verdict}
-use Rattle.knox.specs.declared.verdict.Verdict.TheVariants.{Yes, Undecided, TooWide}
+use Rattle.knox_verify.specs.declared.verdict.Verdict.{Verdict}
+use Rattle.knox_verify.specs.declared.verdict.Verdict.TheVariants.{Yes, Undecided, TooWide}
 use Rattle.knox.specs.Commands.{command_of}
 use Rattle.knox.specs.Reading.{ReadWhole, ReadUpTo, texts_of}
 use Rattle.knox.specs.Verdicts.{JudgesTexts, printed}

@@ -3,8 +3,8 @@ use Rattle.std.specs.Prelude.{ℕ, List, [], slice_index_or}
 use Rattle.knox_edge.specs.Texts.{Bytes}
 use Rattle.knox.specs.declared.status.Status.{Status}
 use Rattle.knox.specs.declared.status.Status.TheVariants as status
-use Rattle.knox.specs.declared.verdict.Verdict.{Verdict}
-use Rattle.knox.specs.declared.verdict.Verdict.TheVariants.{Yes, Undecided, TooWide}
+use Rattle.knox_verify.specs.declared.verdict.Verdict.{Verdict}
+use Rattle.knox_verify.specs.declared.verdict.Verdict.TheVariants.{Yes, Undecided, TooWide}
 use Rattle.knox.specs.declared.outcome.Outcome.{Outcome}
 use Rattle.knox.specs.declared.outcome.Outcome.TheVariants.{NoCommand, UnbuiltCommand, Unread, Overlong, UnbuiltTexts, Judged, OutOfMemory}
 use Rattle.knox.specs.Verdicts.{printed}

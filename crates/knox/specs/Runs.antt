@@ -11,7 +11,7 @@ use Rattle.knox.specs.declared.status.Status.{Status}
 use Rattle.knox.specs.declared.status.Status.TheVariants as status
 use Rattle.knox.specs.declared.outcome.Outcome.{Outcome}
 use Rattle.knox.specs.declared.outcome.Outcome.TheVariants.{NoCommand, UnbuiltCommand, Unread, Overlong, UnbuiltTexts, Judged, OutOfMemory}
-use Rattle.knox.specs.declared.verdict.Verdict.{Verdict}
+use Rattle.knox_verify.specs.declared.verdict.Verdict.{Verdict}
 use Rattle.knox.specs.declared.reading.Refused.{Refused}
 use Rattle.knox.specs.declared.judging.Unjudged.{Unjudged}
 use Rattle.knox.specs.declared.judging.Unjudged.TheVariants as unjudged

@@ -1,54 +1,24 @@
--- What a verdict says of five texts, and what it prints.
-use Rattle.std.specs.Prelude.{ℕ, ◌<◌, List, [], ◌∷◌, ◌++◌, length, codes, Result, Err}
+-- What a verdict says of the five texts of a command, and what it prints.
+use Rattle.std.specs.Prelude.{ℕ, List, [], ◌∷◌, ◌++◌, codes}
 use Rattle.std.specs.List.{flat_map}
 use Rattle.std.specs.Fmt.{decimal}
 use Rattle.knox_words.specs.Bits.{Bits}
-use Rattle.knox_edge.specs.Texts.{Bytes, limit}
-use Rattle.knox.specs.declared.verdict.Letter.{Letter}
-use Rattle.knox.specs.declared.verdict.Letter.TheVariants.{C, S, D, E, H}
-use Rattle.knox.specs.declared.verdict.Verdict.{Verdict}
-use Rattle.knox.specs.declared.verdict.Verdict.TheVariants.{Yes, Undecided, TooWide}
-use Rattle.knox.specs.declared.verdict.VerifyFault.{VerifyFault}
-use Rattle.knox.specs.declared.verdict.VerifyFault.TheVariants.{Text}
-use Rattle.knox_theory.specs.Closed.{Closed}
-use Rattle.knox.specs.Judgements.{Parts, design, hints, Agrees, Undecides, IsTooWide}
-use Rattle.knox.specs.Meanings.{Means}
+use Rattle.knox_edge.specs.Texts.{Bytes}
+use Rattle.knox_verify.specs.declared.verdict.Verdict.{Verdict}
+use Rattle.knox_verify.specs.declared.verdict.Verdict.TheVariants.{Yes, Undecided, TooWide}
+use Rattle.knox_verify.specs.Judgements.{Parts}
+use Rattle.knox_verify.specs.Meanings.{InForm}
+use Rattle.knox_verify.specs.Verdicts.{Judges}
 
--- the text with this letter
-abbrev pub lettered : Letter → Bytes → Bytes → Bytes → Bytes → Bytes → Bytes
-lettered C c s d e h = c
-lettered S c s d e h = s
-lettered D c s d e h = d
-lettered E c s d e h = e
-lettered H c s d e h = h
-
--- a text is refused only where it is over the limit
-abbrev pub RefusesLongTexts : Bytes → Bytes → Bytes → Bytes → Bytes → Result Verdict VerifyFault → Type 0
-RefusesLongTexts c s d e h (Err (Text letter why)) = limit < length (lettered letter c s d e h)
-RefusesLongTexts c s d e h r = Unit {0}
-
--- what a verdict says of parts
-abbrev pub JudgesParts : Verdict → Parts → Type 0
-JudgesParts Yes p = Agrees p
-JudgesParts (Undecided hint choices) p = Undecides p hint.0 choices.words
-JudgesParts (TooWide hint bits) p = IsTooWide p hint.0 bits
-
--- what deciding a script says: of a yes, that no choices falsify a hint
-abbrev pub Decided : Verdict → Parts → Type 0
-Decided Yes p = Closed (design p) (hints p)
-Decided (Undecided hint choices) p = Undecides p hint.0 choices.words
-Decided (TooWide hint bits) p = IsTooWide p hint.0 bits
-
--- What a verdict says of the five texts, those that a shelf gave: it says it of parts that the texts mean.
-pub record Judges (v : Verdict) (c s d e h : Bytes) : Type 0 where
-  pub parts : Parts
-  pub meant : Means c s d e h parts
-  pub judged : JudgesParts v parts
-
--- the same of a list of five texts
+-- what a verdict says of a list of five texts
 abbrev pub JudgesTexts : Verdict → List Bytes → Type 0
 JudgesTexts v (c ∷ s ∷ d ∷ e ∷ h ∷ []) = Judges v c s d e h
 JudgesTexts v ts = ⊥
+
+-- five texts that are in no form that is built
+abbrev pub InNoForm : List Bytes → Type 0
+InNoForm (c ∷ s ∷ d ∷ e ∷ h ∷ []) = (p : Parts) → InForm c s d e h p → ⊥
+InNoForm ts = ⊥
 
 -- a space and a word in decimal
 abbrev pub spaced : Bits → Bytes

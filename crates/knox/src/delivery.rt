@@ -9,7 +9,7 @@ ghost use Rattle.knox.specs.Outcomes.{status_of, status_of_verdict, to_out, to_e
 use crate::outcome::Outcome;
 use crate::saying::{cannot_read, choices, put_line, say, too_long, too_wide, undecided};
 use crate::status::Status;
-use crate::verdict::Verdict;
+use knox_verify::Verdict;
 use knox_edge::Sink;
 use script_core::{Choices, HintNo};
 use std::alloc::Global;

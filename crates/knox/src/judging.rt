@@ -1,11 +1,11 @@
 //! Gives five texts that were read to the verifier.
-ghost use Rattle.std.specs.Prelude.{◌≡◌, ◌≤◌, ◌+◌, ◌^◌, length, drop, IfOk};
+ghost use Rattle.std.specs.Prelude.{◌≡◌, ◌≤◌, ◌+◌, ◌^◌, length, drop, IfOk, IfErr};
 ghost use Rattle.knox.specs.Reading.{Within, texts_of};
-ghost use Rattle.knox.specs.Verdicts.{JudgesTexts};
+ghost use Rattle.knox.specs.declared.judging.Unjudged.TheVariants.{NotYet};
+ghost use Rattle.knox.specs.Verdicts.{JudgesTexts, InNoForm};
 
-use crate::verdict::{Verdict, VerifyFault};
-use crate::verify::verify_texts;
 use knox_edge::Shelf;
+use knox_verify::{Verdict, VerifyFault, verify_texts};
 use std::alloc::Global;
 
 /// Why texts that were read got no verdict.
@@ -28,7 +28,8 @@ pub fn judge<F: Shelf>(
     requires five { length (drop first (F.given shelf.now)) ≡ 5 }
     requires within { Within (texts_of (drop first (F.given shelf.now))) }
     requires places { first + 5 ≤ 2 ^ 64 }
-    ensures { IfOk result (λ v. JudgesTexts v (texts_of (drop first (F.given shelf.now)))) }
+    ensures judged { IfOk result (λ v. JudgesTexts v (texts_of (drop first (F.given shelf.now)))) }
+    ensures not_yet { IfErr result (λ why. why ≡ NotYet → InNoForm (texts_of (drop first (F.given shelf.now)))) }
 {
     let c = shelf.text(first);
     let s = shelf.text(first + 1);

@@ -13,11 +13,8 @@ mod status;
 mod store_tests;
 #[cfg(test)]
 mod tests;
-mod unbuilt;
-mod verdict;
 #[cfg(test)]
 mod verdict_tests;
-mod verify;
 mod words;
 
 use knox_edge::{FileShelf, StreamSink};

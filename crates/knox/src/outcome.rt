@@ -1,7 +1,7 @@
 //! What a run comes to before it writes.
 ghost use Rattle.std.specs.Prelude.{◌≡◌, ◌∷◌};
 
-use crate::verdict::Verdict;
+use knox_verify::Verdict;
 
 /// What a run has to say. A number counts the command's texts from 0.
 #[derive(Drop)]

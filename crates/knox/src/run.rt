@@ -10,7 +10,7 @@ use crate::judging::{Unjudged, judge};
 use crate::outcome::Outcome;
 use crate::reading::{Refused, read_texts};
 use crate::status::Status;
-use crate::verdict::Verdict;
+use knox_verify::Verdict;
 use crate::words::Words;
 use knox_edge::{Shelf, ShelfEnd, Sink};
 use std::alloc::Global;

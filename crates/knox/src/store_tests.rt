@@ -1,11 +1,10 @@
 //! The PIN store by the evaluators of its parts, which are proved to be their definitions: values
 //! worked by hand. Its cells are the secret and ok, its inputs are the command and the data.
-use crate::verdict::VerifyFault;
 use crate::verdict_tests::{CIRCUIT, DRIVER, EMULATOR, SPEC};
-use crate::verify::device_of;
 use emu_machine::{Device, EmuState, emu_power, emu_read, emu_tick};
 use knox_circuit::{Inputs, Noise, State};
 use knox_lang::{SpecState, initial, op};
+use knox_verify::{VerifyFault, device_of};
 use knox_words::{Word, Words, word_or};
 use std::alloc::{AllocError, Global};
 use std::test::Fail;

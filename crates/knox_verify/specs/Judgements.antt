@@ -1,5 +1,3 @@
--- What a verdict says of five texts: of the device that they mean, and of the script of hints.
--- The project's own. What a yes says is `Judges Yes`: with the meaning of the texts, it is what everybody must believe.
 use Rattle.std.specs.Prelude.{◌≡◌, ℕ, ◌<◌, List}
 use Rattle.knox_words.specs.Lists.{Words}
 use Rattle.knox_theory.specs.Device.{Device}

@@ -1,7 +1,7 @@
 use Rattle.knox_theory.specs.Segments.{segments}
-use Rattle.knox.specs.Judgements.{parts_of, design, hints}
-use Rattle.knox.proofs.Deciding.{HoldBelow}
-use Rattle.knox.proofs.verify.decide.Given as goal
+use Rattle.knox_verify.specs.Judgements.{parts_of, design, hints}
+use Rattle.knox_verify.proofs.Deciding.{HoldBelow}
+use Rattle.knox_verify.proofs.verify.decide.Given as goal
 
 abbrev pub invariant-loop-g : goal.invariant-loop-g
 invariant-loop-g l = HoldBelow (segments (design (parts_of l.dev l.sc)) (hints (parts_of l.dev l.sc))) l.g

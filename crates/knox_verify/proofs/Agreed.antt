@@ -6,10 +6,10 @@ use Rattle.knox_theory.specs.Lawful.{IsWireDesign}
 use Rattle.knox_theory.specs.Script.{Script, IsScript}
 use Rattle.knox_theory.specs.Closed.{Closed, StartsRefined}
 use Rattle.emu_machine.specs.Meaning.{device_of, design_of}
-use Rattle.knox.specs.declared.verdict.Verdict.{Verdict}
-use Rattle.knox.specs.declared.verdict.Verdict.TheVariants.{Yes, Undecided, TooWide}
-use Rattle.knox.specs.Judgements.{Parts, device, design, hints}
-use Rattle.knox.specs.Verdicts.{Decided, JudgesParts}
+use Rattle.knox_verify.specs.declared.verdict.Verdict.{Verdict}
+use Rattle.knox_verify.specs.declared.verdict.Verdict.TheVariants.{Yes, Undecided, TooWide}
+use Rattle.knox_verify.specs.Judgements.{Parts, device, design, hints}
+use Rattle.knox_verify.specs.Verdicts.{Decided, JudgesParts}
 
 -- the law on closed scripts, for wires alone
 abbrev pub Law : Type 0

@@ -8,8 +8,8 @@ use Rattle.expr_read.specs.declared.faults.LangWhy.{LangWhy}
 use Rattle.expr_read.specs.declared.faults.LangWhy.TheVariants as lang
 use Rattle.script_read.specs.declared.fault.ScriptWhy.{ScriptWhy}
 use Rattle.script_read.specs.declared.fault.ScriptWhy.TheVariants as script
-use Rattle.knox.specs.declared.verdict.VerifyFault.{VerifyFault}
-use Rattle.knox.specs.declared.verdict.VerifyFault.TheVariants.{Text, NotYet, Memory}
+use Rattle.knox_verify.specs.declared.verdict.VerifyFault.{VerifyFault}
+use Rattle.knox_verify.specs.declared.verdict.VerifyFault.TheVariants.{Text, NotYet, Memory}
 
 -- a fault that names no text
 abbrev pub IsNoText : VerifyFault → Type 0

@@ -1,7 +1,7 @@
 use Rattle.std.proofs.Common.{◌<◌, ◌≤◌, ℕ, sym, subst}
-use Rattle.knox.specs.Judgements.{parts_of}
-use Rattle.knox.proofs.Deciding.{falsified-undecided, wide-named, holds-held, all-closed, none-below}
-use Rattle.knox.proofs.verify.decide.Goals as goal
+use Rattle.knox_verify.specs.Judgements.{parts_of}
+use Rattle.knox_verify.proofs.Deciding.{falsified-undecided, wide-named, holds-held, all-closed, none-below}
+use Rattle.knox_verify.proofs.verify.decide.Goals as goal
 
 pub returns-in-Falsified-clause-decided : goal.returns-in-Falsified-clause-decided
 returns-in-Falsified-clause-decided c =

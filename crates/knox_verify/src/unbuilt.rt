@@ -1,7 +1,7 @@
 //! Faults of texts as faults of the verifier: until the languages stand whole, a text that isn't
 //! read is one of a form that isn't built.
 ghost use Rattle.std.specs.Prelude.{◌≡◌};
-ghost use Rattle.knox.specs.declared.verdict.VerifyFault.TheVariants.{Memory};
+ghost use Rattle.knox_verify.specs.declared.verdict.VerifyFault.TheVariants.{Memory};
 
 use crate::verdict::VerifyFault;
 use knox_circuit::{BtorFault, Why};
@@ -19,7 +19,7 @@ impl From<AllocError> for VerifyFault {
 }
 
 impl From<BtorFault> for VerifyFault {
-    ghost use Rattle.knox.specs.Faults.{of_circuit};
+    ghost use Rattle.knox_verify.specs.Faults.{of_circuit};
 
     ghost from_gives = { λ f fault. fault ≡ of_circuit f.why };
 
@@ -32,7 +32,7 @@ impl From<BtorFault> for VerifyFault {
 }
 
 impl From<SexprFault> for VerifyFault {
-    ghost use Rattle.knox.specs.Faults.{of_trees};
+    ghost use Rattle.knox_verify.specs.Faults.{of_trees};
 
     ghost from_gives = { λ f fault. fault ≡ of_trees f };
 
@@ -45,7 +45,7 @@ impl From<SexprFault> for VerifyFault {
 }
 
 impl From<LangFault> for VerifyFault {
-    ghost use Rattle.knox.specs.Faults.{of_program};
+    ghost use Rattle.knox_verify.specs.Faults.{of_program};
 
     ghost from_gives = { λ f fault. fault ≡ of_program f.why };
 
@@ -58,7 +58,7 @@ impl From<LangFault> for VerifyFault {
 }
 
 impl From<ScriptFault> for VerifyFault {
-    ghost use Rattle.knox.specs.Faults.{of_script};
+    ghost use Rattle.knox_verify.specs.Faults.{of_script};
 
     ghost from_gives = { λ f fault. fault ≡ of_script f.why };
 

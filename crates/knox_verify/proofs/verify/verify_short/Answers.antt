@@ -1,6 +1,6 @@
-use Rattle.knox.specs.Judgements.{parts_of}
-use Rattle.knox.proofs.Agreed.{judged-parts}
-use Rattle.knox.proofs.verify.verify_short.Goals as goal
+use Rattle.knox_verify.specs.Judgements.{parts_of}
+use Rattle.knox_verify.proofs.Agreed.{judged-parts}
+use Rattle.knox_verify.proofs.verify.verify_short.Goals as goal
 
 pub returns-clause-judged : goal.returns-clause-judged
 returns-clause-judged c =

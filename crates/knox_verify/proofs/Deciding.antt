@@ -15,7 +15,7 @@ use Rattle.script_core.specs.declared.parts.Choices.{Choices}
 use Rattle.script_core.specs.declared.decide.Checked.{Checked}
 use Rattle.script_core.specs.declared.decide.Checked.TheVariants as checked
 use Rattle.script_core.specs.Decisions.{Checks}
-use Rattle.knox.specs.Judgements.{Parts, design, hints, Undecides, IsTooWide}
+use Rattle.knox_verify.specs.Judgements.{Parts, design, hints, Undecides, IsTooWide}
 
 -- where a segment stands on a list
 record Stands (g : Segment) (gs : List Segment) : Type 0 where

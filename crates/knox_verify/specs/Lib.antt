@@ -1,0 +1,4 @@
+pub mod Judgements
+pub mod Meanings
+pub mod Faults
+pub mod Verdicts

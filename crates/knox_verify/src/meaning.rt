@@ -1,0 +1,185 @@
+//! From five texts to what they mean: each text is read by its language's own definition, and
+//! parts that don't fit each other are in no form.
+ghost use Rattle.std.specs.Prelude.{◌≡◌, ◌≤◌, length, List, Some, IfOk, IfErr};
+ghost use Rattle.knox_theory.specs.Closed.{StartsRefined};
+ghost use Rattle.knox_text.specs.Places.{start_of, end_of};
+ghost use Rattle.knox_sexpr.specs.declared.tree.Tree.{Tree};
+ghost use Rattle.knox_sexpr.specs.Grammar.{Means};
+ghost use Rattle.knox_circuit.specs.Circuit.{Circuit};
+ghost use Rattle.knox_lang.specs.declared.parts.SpecParts.{SpecParts};
+ghost use Rattle.knox_lang.specs.declared.parts.DriverParts.{DriverParts};
+ghost use Rattle.knox_lang.specs.declared.parts.EmuParts.{EmuParts};
+ghost use Rattle.script_core.specs.declared.parts.ScriptParts.{ScriptParts};
+ghost use Rattle.btor_read.specs.Grammar.{circuit_of};
+ghost use Rattle.lang_read.specs.Specifications.{spec_text};
+ghost use Rattle.lang_read.specs.Drivers.{driver_text};
+ghost use Rattle.lang_read.specs.Emulators.{emulator_text};
+ghost use Rattle.script_read.specs.Scripts.{script_text};
+ghost use Rattle.knox_verify.specs.declared.verdict.VerifyFault.TheVariants.{Memory};
+ghost use Rattle.knox_verify.specs.Judgements.{parts_of, design, hints};
+ghost use Rattle.knox_verify.specs.Meanings.{Reads, MeansDevice};
+ghost use Rattle.knox_verify.specs.Faults.{IsNoText};
+
+use crate::verdict::VerifyFault;
+use emu_machine::Device;
+use knox_circuit::Circuit;
+use knox_lang::{DriverProgram, EmuProgram, SpecProgram};
+use knox_sexpr::Tree;
+use knox_text::{Cursor, Place};
+use script_core::{Script, starts_refined};
+use sqlite_items::Items;
+use std::alloc::Global;
+
+/// The trees of a text, and the place after its last byte.
+#[derive(Drop)]
+struct Parsed {
+    trees: Items<Tree>,
+    end: Place,
+}
+
+/// The place after the last byte of a text.
+fn end_of(text: &[u8]) -> Place
+    requires { length text.now ≤ 67108864 }
+    ensures { result ≡ end_of (start_of text.now) }
+{
+    let mut cursor = Cursor::new(text);
+    while cursor.peek().is_some() {
+        cursor.bump();
+    }
+    cursor.place()
+}
+
+/// The trees of a text, with the place of its end.
+fn parse(alloc: Global, text: &[u8]) -> Result<Parsed, VerifyFault>
+    requires { length text.now ≤ 67108864 }
+    ensures trees { IfOk result (λ p. Means text.now p.trees) }
+    ensures end { IfOk result (λ p. p.end ≡ end_of (start_of text.now)) }
+    ensures only { (ts : List Tree) → Means text.now ts → IfErr result (λ f. f ≡ Memory) }
+    ensures fault { IfErr result IsNoText }
+{
+    let trees = knox_sexpr::read(alloc, text)?;
+    Ok(Parsed {
+        trees,
+        end: end_of(text),
+    })
+}
+
+/// The specification that a text means.
+fn spec_of(alloc: Global, s: &[u8]) -> Result<SpecProgram, VerifyFault>
+    requires { length s.now ≤ 67108864 }
+    ensures meant { IfOk result (λ spec. Reads spec_text s.now spec) }
+    ensures only { (p : SpecParts) → Reads spec_text s.now p → IfErr result (λ f. f ≡ Memory) }
+    ensures fault { IfErr result IsNoText }
+{
+    knox_sexpr::one_meaning();
+    let text = parse(alloc, s)?;
+    let spec = lang_read::read_spec(alloc, text.trees.as_slice(), text.end)?;
+    Ok(spec)
+}
+
+/// The driver that a text means for a circuit.
+fn driver_of(
+    alloc: Global,
+    d: &[u8],
+    circuit: &Circuit,
+    spec: &SpecProgram,
+) -> Result<DriverProgram, VerifyFault>
+    requires { length d.now ≤ 67108864 }
+    ensures meant { IfOk result (λ driver. Reads (driver_text circuit.now) d.now driver) }
+    ensures only { (p : DriverParts) → Reads (driver_text circuit.now) d.now p → IfErr result (λ f. f ≡ Memory) }
+    ensures fault { IfErr result IsNoText }
+{
+    knox_sexpr::one_meaning();
+    let text = parse(alloc, d)?;
+    let driver = lang_read::read_driver(alloc, text.trees.as_slice(), text.end, circuit, spec)?;
+    Ok(driver)
+}
+
+/// The emulator that a text means for a circuit, a specification and a driver.
+fn emulator_of(
+    alloc: Global,
+    e: &[u8],
+    circuit: &Circuit,
+    spec: &SpecProgram,
+    driver: &DriverProgram,
+) -> Result<EmuProgram, VerifyFault>
+    requires { length e.now ≤ 67108864 }
+    ensures meant { IfOk result (λ emulator. Reads (emulator_text circuit.now spec.now) e.now emulator) }
+    ensures only { (p : EmuParts) → Reads (emulator_text circuit.now spec.now) e.now p → IfErr result (λ f. f ≡ Memory) }
+    ensures fault { IfErr result IsNoText }
+{
+    knox_sexpr::one_meaning();
+    let text = parse(alloc, e)?;
+    let trees = text.trees.as_slice();
+    let emulator = lang_read::read_emulator(alloc, trees, text.end, circuit, spec, driver)?;
+    Ok(emulator)
+}
+
+/// The circuit that a text means.
+fn circuit_of(alloc: Global, c: &[u8]) -> Result<Circuit, VerifyFault>
+    requires { length c.now ≤ 67108864 }
+    ensures meant { IfOk result (λ circuit. circuit_of c.now ≡ Some circuit) }
+    ensures only { (x : Circuit) → circuit_of c.now ≡ Some x → IfErr result (λ f. f ≡ Memory) }
+    ensures fault { IfErr result IsNoText }
+{
+    let circuit = btor_read::read_circuit(alloc, c)?;
+    Ok(circuit)
+}
+
+/// The device that four texts of at most 64 MiB mean. `NotYet` comes where they mean none in a form
+/// that is built.
+pub fn device_of(
+    alloc: Global,
+    c: &[u8],
+    s: &[u8],
+    d: &[u8],
+    e: &[u8],
+) -> Result<Device, VerifyFault>
+    requires c { length c.now ≤ 67108864 }
+    requires s { length s.now ≤ 67108864 }
+    requires d { length d.now ≤ 67108864 }
+    requires e { length e.now ≤ 67108864 }
+    ensures meant { IfOk result (λ dev. MeansDevice c.now s.now d.now e.now dev.circuit dev.spec dev.driver dev.emulator) }
+    ensures only { (circuit : Circuit) (spec : SpecParts) (driver : DriverParts) (emulator : EmuParts) → MeansDevice c.now s.now d.now e.now circuit spec driver emulator → IfErr result (λ f. f ≡ Memory) }
+    ensures fault { IfErr result IsNoText }
+{
+    knox_sexpr::one_meaning();
+    let circuit = circuit_of(alloc, c)?;
+    let spec = spec_of(alloc, s)?;
+    let driver = driver_of(alloc, d, &circuit, &spec)?;
+    let emulator = emulator_of(alloc, e, &circuit, &spec, &driver)?;
+    match Device::new(circuit, spec, driver, emulator) {
+        Some(dev) => Ok(dev),
+        None => Err(VerifyFault::NotYet),
+    }
+}
+
+/// The script that a text means for a device.
+fn read_hints(alloc: Global, dev: &Device, h: &[u8]) -> Result<Script, VerifyFault>
+    requires { length h.now ≤ 67108864 }
+    ensures meant { IfOk result (λ script. Reads (script_text dev.now.circuit dev.now.spec dev.now.driver dev.now.emulator) h.now script) }
+    ensures only { (p : ScriptParts) → Reads (script_text dev.now.circuit dev.now.spec dev.now.driver dev.now.emulator) h.now p → IfErr result (λ f. f ≡ Memory) }
+    ensures fault { IfErr result IsNoText }
+{
+    knox_sexpr::one_meaning();
+    let text = parse(alloc, h)?;
+    let script = script_read::read_script(alloc, text.trees.as_slice(), text.end, dev)?;
+    Ok(script)
+}
+
+/// The script that a text means for a device, whose `refine` holds as the device leaves the factory.
+pub(crate) fn script_of(alloc: Global, dev: &Device, h: &[u8]) -> Result<Script, VerifyFault>
+    requires { length h.now ≤ 67108864 }
+    ensures meant { IfOk result (λ script. Reads (script_text dev.now.circuit dev.now.spec dev.now.driver dev.now.emulator) h.now script) }
+    ensures starts { IfOk result (λ script. StartsRefined (design (parts_of dev.now script)) (hints (parts_of dev.now script))) }
+    ensures only { (p : ScriptParts) → Reads (script_text dev.now.circuit dev.now.spec dev.now.driver dev.now.emulator) h.now p → StartsRefined (design (parts_of dev.now p)) (hints (parts_of dev.now p)) → IfErr result (λ f. f ≡ Memory) }
+    ensures fault { IfErr result IsNoText }
+{
+    knox_sexpr::one_meaning();
+    let script = read_hints(alloc, dev, h)?;
+    if starts_refined(alloc, dev, &script)? {
+        Ok(script)
+    } else {
+        Err(VerifyFault::NotYet)
+    }
+}
