@@ -77,7 +77,7 @@ asks_by_outcome ws b a NoCommand p = none_prefix ws b a p.1
 asks_by_outcome ws b a UnbuiltCommand p = none_prefix ws b a p.1
 asks_by_outcome ws b a (Unread which) p = up_to_prefix ws which Failed b a p.1
 asks_by_outcome ws b a (Overlong which) p = up_to_prefix ws which TooLong b a p.1
-asks_by_outcome ws b a UnbuiltTexts p = whole_prefix ws b a p.1
+asks_by_outcome ws b a UnbuiltTexts p = whole_prefix ws b a p.1.0
 asks_by_outcome ws b a (Judged verdict) p = whole_prefix ws b a p.1.0
 asks_by_outcome ws b a OutOfMemory p =
     elim p.1 as (λ _. AsksPrefix ws b a) [

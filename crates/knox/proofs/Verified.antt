@@ -1,10 +1,10 @@
 -- From reads and judgements to what a run comes to.
-use Rattle.std.proofs.Common.{◌≡◌, ◌∙◌, ◌≤◌, ◌-◌, ℕ, List, ◌++◌, length, drop, min, ap, sym, subst, inr, Ok, Err, Result, arith}
+use Rattle.std.proofs.Common.{◌≡◌, ◌∙◌, ◌≤◌, ◌-◌, ℕ, List, ◌++◌, length, drop, min, refl, ap, sym, subst, inr, Ok, Err, Result, arith}
 use Rattle.std.proofs.lemmas.List.{length-map, length-take, length-drop}
 use Rattle.std.specs.declared.vec.Vec.{Vec}
 use Rattle.std.specs.declared.alloc.Global.{Global}
 use Rattle.std.proofs.Math.Seq.{drop-append_seam}
-use Rattle.std.specs.Result.{IfOk}
+use Rattle.std.specs.Result.{IfOk, IfErr}
 use Rattle.knox_edge.specs.Texts.{Bytes, Reads, bytes_of}
 use Rattle.knox.specs.declared.outcome.Outcome.{Outcome}
 use Rattle.knox.specs.declared.outcome.Outcome.TheVariants.{NoCommand, UnbuiltCommand}
@@ -13,7 +13,7 @@ use Rattle.knox.specs.declared.judging.Unjudged.{Unjudged}
 use Rattle.knox.specs.declared.judging.Unjudged.TheVariants.{NotYet, Memory}
 use Rattle.knox.specs.Commands.{command_of}
 use Rattle.knox.specs.Reading.{ReadWhole, texts_of}
-use Rattle.knox.specs.Verdicts.{JudgesTexts}
+use Rattle.knox.specs.Verdicts.{JudgesTexts, InNoForm}
 use Rattle.knox.specs.declared.status.Status.{Status}
 use Rattle.knox.specs.Outcomes.{status_of, to_out, to_err}
 use Rattle.knox.specs.Runs.{IsVerify, Verifies, Because, Sunk, Delivers, Ends, names_of, outcome_of}
@@ -24,13 +24,13 @@ drop-given names b a first w e =
     ap (drop first) w.given ∙ ap (λ n. drop n (b.given ++ w.entries)) e ∙ drop-append_seam b.given w.entries
 
 -- a judgement of texts that were all read
-pub Verifies-judged : (names : List Bytes) (b a : Reads) (j : Result Verdict Unjudged) (o : Outcome) → o ≡ outcome_of j → (w : ReadWhole names b a) → IfOk j (λ v. JudgesTexts v (texts_of w.entries)) → Verifies names b a o
-Verifies-judged names b a j o e w h = subst (Verifies names b a) (sym e) (at j h)
+pub Verifies-judged : (names : List Bytes) (b a : Reads) (j : Result Verdict Unjudged) (o : Outcome) → o ≡ outcome_of j → (w : ReadWhole names b a) → IfOk j (λ v. JudgesTexts v (texts_of w.entries)) → IfErr j (λ why. why ≡ NotYet → InNoForm (texts_of w.entries)) → Verifies names b a o
+Verifies-judged names b a j o e w h n = subst (Verifies names b a) (sym e) (at j h n)
   where
-    at : (j : Result Verdict Unjudged) → IfOk j (λ v. JudgesTexts v (texts_of w.entries)) → Verifies names b a (outcome_of j)
-    at (Ok v) h = (w, h)
-    at (Err NotYet) h = w
-    at (Err Memory) h = inr w
+    at : (j : Result Verdict Unjudged) → IfOk j (λ v. JudgesTexts v (texts_of w.entries)) → IfErr j (λ why. why ≡ NotYet → InNoForm (texts_of w.entries)) → Verifies names b a (outcome_of j)
+    at (Ok v) h n = (w, h)
+    at (Err NotYet) h n = (w, n refl)
+    at (Err Memory) h n = inr w
 
 -- the outcome of a verify command
 pub Because-verify : (ws : List Bytes) (b a : Reads) (o : Outcome) → IsVerify (command_of ws) → Verifies (names_of ws) b a o → Because ws b a o

@@ -11,7 +11,7 @@ use Rattle.knox_verify.specs.declared.verdict.Verdict.{Verdict}
 use Rattle.knox_verify.specs.declared.verdict.Verdict.TheVariants.{Yes, Undecided, TooWide}
 use Rattle.knox.specs.Commands.{command_of}
 use Rattle.knox.specs.Reading.{ReadWhole, ReadUpTo, texts_of}
-use Rattle.knox.specs.Verdicts.{JudgesTexts, printed}
+use Rattle.knox.specs.Verdicts.{JudgesTexts, InNoForm, printed}
 use Rattle.knox.specs.Lines.{usage_line, not_yet_line, cannot_read_line, letter_at, too_long_line}
 use Rattle.knox.specs.Runs.{IsVerify, IsOther, Sunk, Whole, names_of}
 
@@ -32,7 +32,7 @@ Explains ws before after out out' err err' status.TooWide =
 Explains ws before after out out' err err' status.Usage =
     (command_of ws ≡ None) × (after ≡ before) × Whole out out' [] × Whole err err' usage_line
 Explains ws before after out out' err err' status.NotYet =
-    ((IsOther (command_of ws) × (after ≡ before)) ⊎ (IsVerify (command_of ws) × ReadWhole (names_of ws) before after))
+    ((IsOther (command_of ws) × (after ≡ before)) ⊎ (IsVerify (command_of ws) × (whole : ReadWhole (names_of ws) before after) × InNoForm (texts_of whole.entries)))
     × Whole out out' [] × Whole err err' not_yet_line
 Explains ws before after out out' err err' status.ReadFault =
     (which : ℕ) × IsVerify (command_of ws) × ReadUpTo (names_of ws) which Failed before after × Rose before.faults after.faults

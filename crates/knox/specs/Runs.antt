@@ -17,7 +17,7 @@ use Rattle.knox.specs.declared.judging.Unjudged.{Unjudged}
 use Rattle.knox.specs.declared.judging.Unjudged.TheVariants as unjudged
 use Rattle.knox.specs.Commands.{command_of}
 use Rattle.knox.specs.Reading.{ReadWhole, ReadUpTo, texts_of}
-use Rattle.knox.specs.Verdicts.{JudgesTexts}
+use Rattle.knox.specs.Verdicts.{JudgesTexts, InNoForm}
 use Rattle.knox.specs.Outcomes.{status_of, to_out, to_err}
 
 -- the names of a verify command's texts: the five words after the first
@@ -41,7 +41,7 @@ Verifies names before after NoCommand = ⊥
 Verifies names before after UnbuiltCommand = ⊥
 Verifies names before after (Unread which) = ReadUpTo names which Failed before after
 Verifies names before after (Overlong which) = ReadUpTo names which TooLong before after
-Verifies names before after UnbuiltTexts = ReadWhole names before after
+Verifies names before after UnbuiltTexts = (whole : ReadWhole names before after) × InNoForm (texts_of whole.entries)
 Verifies names before after (Judged verdict) = (whole : ReadWhole names before after) × JudgesTexts verdict (texts_of whole.entries)
 Verifies names before after OutOfMemory =
     ((which : ℕ) × ReadUpTo names which Memory before after) ⊎ ReadWhole names before after

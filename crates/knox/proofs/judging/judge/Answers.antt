@@ -1,5 +1,5 @@
 use Rattle.std.proofs.Common.{sym, subst}
-use Rattle.knox.specs.Verdicts.{JudgesTexts}
+use Rattle.knox.specs.Verdicts.{JudgesTexts, InNoForm}
 use Rattle.knox.proofs.FiveTexts.{five-drop, not_long}
 use Rattle.knox.proofs.judging.judge.Goals as goal
 
@@ -9,8 +9,14 @@ unreachable-requires g c =
     (five-drop _ c.args.first _ _ _ _ _ c.requires.five c.text-c.ensures c.text-s.ensures c.text-d.ensures c.text-e.ensures c.text-h.ensures)
     (rw c.in-Err-Text.field-0-is at c.in-Err-Text.ensures.too_long)
 
-pub returns-in-Ok : goal.returns-in-Ok
-returns-in-Ok g c =
+pub returns-in-Ok-clause-judged : goal.returns-in-Ok-clause-judged
+returns-in-Ok-clause-judged g c =
     subst (JudgesTexts c.in-Ok.verdict)
     (sym (five-drop _ c.args.first _ _ _ _ _ c.requires.five c.text-c.ensures c.text-s.ensures c.text-d.ensures c.text-e.ensures c.text-h.ensures))
     c.in-Ok.ensures.judged
+
+pub returns-in-Err-NotYet-clause-not_yet : goal.returns-in-Err-NotYet-clause-not_yet
+returns-in-Err-NotYet-clause-not_yet g c e =
+    subst InNoForm
+    (sym (five-drop _ c.args.first _ _ _ _ _ c.requires.five c.text-c.ensures c.text-s.ensures c.text-d.ensures c.text-e.ensures c.text-h.ensures))
+    (rw c.in-Err-NotYet.field-0-is at c.in-Err-NotYet.ensures.not_yet)
