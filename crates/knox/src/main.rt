@@ -3,6 +3,8 @@
 
 mod command;
 mod delivery;
+#[cfg(test)]
+mod form_tests;
 mod judging;
 mod outcome;
 mod reading;

@@ -164,16 +164,16 @@ const TWO_STATES: &[u8] = b"\
 
 /// Five texts.
 #[derive(Clone, Copy)]
-struct Texts {
-    c: &'static [u8],
-    s: &'static [u8],
-    d: &'static [u8],
-    e: &'static [u8],
-    h: &'static [u8],
+pub(crate) struct Texts<'a> {
+    pub(crate) c: &'a [u8],
+    pub(crate) s: &'a [u8],
+    pub(crate) d: &'a [u8],
+    pub(crate) e: &'a [u8],
+    pub(crate) h: &'a [u8],
 }
 
 /// The PIN store and hints that close.
-const SMALL: Texts = Texts {
+pub(crate) const SMALL: Texts<'static> = Texts {
     c: CIRCUIT,
     s: SPEC,
     d: DRIVER,
@@ -183,10 +183,10 @@ const SMALL: Texts = Texts {
 
 /// How a run ended, and what it wrote.
 #[derive(Drop)]
-struct Ran {
-    status: Status,
-    out: Vec<u8>,
-    err: Vec<u8>,
+pub(crate) struct Ran {
+    pub(crate) status: Status,
+    pub(crate) out: Vec<u8>,
+    pub(crate) err: Vec<u8>,
 }
 
 fn hold(
@@ -210,7 +210,7 @@ fn shelf_of(alloc: Global, texts: Texts) -> Result<MemShelf, AllocError> {
 }
 
 /// Verifies five texts, with an `out` that fails at these puts and then keeps 2 bytes.
-fn verify(alloc: Global, texts: Texts, fail: Vec<u64>) -> Result<Ran, AllocError> {
+pub(crate) fn verify(alloc: Global, texts: Texts, fail: Vec<u64>) -> Result<Ran, AllocError> {
     let mut items = Vec::new(alloc);
     for word in "verify c s d e h".split(' ') {
         items.push(Vec::from_slice(alloc, word.as_bytes())?)?;

@@ -1,0 +1,215 @@
+//! Texts that are one edit away from those of the PIN store: some are in no form that is built, each
+//! for one reason, and others say the same in an unusual spelling.
+use crate::status::Status;
+use crate::verdict_tests::{SMALL, Texts, verify};
+use knox_sexpr::SexprFault;
+use knox_text::{Cursor, Place};
+use std::alloc::{AllocError, Global};
+use std::test::Fail;
+
+/// One of the five texts.
+#[derive(Clone, Copy)]
+enum Which {
+    C,
+    S,
+    D,
+    E,
+    H,
+}
+
+/// An edit of a text: what stands once in it, and what stands there instead.
+type Edit = (Which, &'static [u8], &'static [u8]);
+
+/// The last line of the circuit.
+const LAST: &[u8] = b"21 output 12 ok\n";
+
+const CIRCUITS: [&[u8]; 16] = [
+    // A width over 8, a sort and constants that are not of the form.
+    b"22 sort bitvec 9\n",
+    b"22 sort array 1 1\n",
+    b"22 one 1\n",
+    b"22 const 1 1\n",
+    // A constant that is too large, one with a minus, and operators that are not of the form.
+    b"22 constd 2 4\n",
+    b"22 constd 2 -1\n",
+    b"22 add 3 10 10\n",
+    b"22 not 3 -10\n",
+    // Numbers that stand twice or fall, and an operand that names no node.
+    b"21 sort bitvec 3\n",
+    b"20 sort bitvec 3\n",
+    b"22 redor 1 23\n",
+    // Operands of two widths, a second symbol, and states without `init` or `next`.
+    b"22 eq 1 8 10\n",
+    b"22 zero 1 a b\n",
+    b"22 state 1 x\n23 next 1 22 22\n",
+    b"22 state 1 x\n23 init 1 22 4\n",
+    b"22 next 3 10 10\n",
+];
+
+/// Edits that leave the form.
+const OUTSIDE: [Edit; 36] = [
+    (Which::S, b"secret 4 0)", b"secret 4 16)"),
+    (Which::S, b"secret 4 0)", b"secret 4 0) (field x 9 0)"),
+    (Which::S, b"secret 4 0)", b"secret 4 0) (field secret 4 0)"),
+    (Which::S, b"secret 4 0)", b"secret 4 0) (field x (array 1 1) 0)"),
+    (Which::S, b"(result #b1)", b"(result #b01)"),
+    (Which::S, b"(result #b1)", b""),
+    (Which::S, b"(assign secret v)", b"(assign v v)"),
+    (Which::S, b"(assign secret v)", b"(assign secret w)"),
+    (Which::S, b"(assign secret v)", b"(if #b1 () ())"),
+    (Which::S, b"((v 4))", b"((v 4) (v 4))"),
+    (Which::S, b"(op check", b"(op set"),
+    (Which::S, b"(eq g secret)", b"(eq g)"),
+    (Which::S, b"(eq g secret)", b"(ulte g secret)"),
+    (Which::S, b"secret))))", b"secret)))))"),
+    (Which::S, b"secret))))", b"secret)))) (spec)"),
+    (Which::D, b"(persistent secret)", b"(persistent secret secret)"),
+    (Which::D, b"(persistent secret)", b"(persistent cmd)"),
+    (Which::D, b"(persistent secret)", b"(persistent secret) (idle)"),
+    (Which::D, b"(persistent secret)", b"(call set (result #b1))"),
+    (Which::E, b"(field ok 1 0)", b"(copy) (field ok 1 0)"),
+    (Which::E, b"(outputs (ok ok))", b"(outputs (ok ok) (ok ok))"),
+    (Which::E, b"(outputs (ok ok))", b"(outputs (no ok))"),
+    (Which::E, b"(outputs (ok ok))", b"(power) (outputs (ok ok))"),
+    (Which::E, b"(local q 1)", b"(local q 1) (local q 1)"),
+    (Which::E, b"(query q set (in data))", b"(query q get (in data))"),
+    (Which::E, b"(query q set (in data))", b"(query q set)"),
+    (Which::E, b"(query q set (in data))", b"(query q set (in cmd))"),
+    (Which::E, b"(assign ok r)", b"(assign ok (s secret))"),
+    (Which::H, b"(step 1)", b"(step 2)"),
+    (Which::H, b"(step 1)", b""),
+    (Which::H, b"(subsume A)", b"(subsume B)"),
+    (Which::H, b"(refine (eq (s secret) (c secret)))", b"(refine #b0)"),
+    (Which::H, b"(refine (eq (s secret) (c secret)))", b"(refine (c ok))"),
+    (Which::H, b"(refine (eq (s secret) (c secret)))", b""),
+    (Which::H, b"(wire", b"(idle #b1) (wire"),
+    (Which::H, b"(cut A ", b"(label B) (cut A "),
+];
+
+/// Edits after which the texts say the same.
+const INSIDE: [Edit; 14] = [
+    (Which::C, b"1 sort bitvec 1\n", b"1 sort bitvec 1\r\n"),
+    (Which::C, b"21 output 12 ok\n", b"\n\t0099 output 012 ok ; the answer"),
+    (Which::C, b"4 zero 1\n", b"; zeros\n4 zero 1 nothing\n"),
+    (Which::C, b"6 constd 2 1\n", b"6\tconstd  2\t01\n"),
+    (Which::S, b"(spec ", b"; a store\r\n(spec;\n"),
+    (Which::S, b"secret 4 0)", b"secret #x4 #b000)"),
+    (Which::S, b"(result #b1)", b"(result (bv 1 001))"),
+    (Which::D, b"(persistent secret)", b"(persistent @10)"),
+    (Which::E, b"(ok ok)", b"(@21 ok)"),
+    (Which::E, b"set (in data)", b"set (in @9)"),
+    (Which::E, b"(assign ok r)", b"(assign ok r) ; the last\n"),
+    (Which::H, b"(step 1)", b"(step #x01)"),
+    (Which::H, b"(refine (eq (s secret) (c secret)))", b"(refine (eq (s secret) (c @10)))"),
+    (Which::H, b"(step 1)", b"\r\n(step\t01)"),
+];
+
+/// A text with a piece of it replaced, or nothing where the piece isn't in it.
+fn edited(alloc: Global, text: &[u8], old: &[u8], new: &[u8]) -> Result<Vec<u8>, AllocError> {
+    for (k, _) in text.iter().enumerate() {
+        if let Some(rest) = text[k..].strip_prefix(old) {
+            let mut out = Vec::from_slice(alloc, &text[..k])?;
+            out.extend_from_slice(new)?;
+            out.extend_from_slice(rest)?;
+            return Ok(out);
+        }
+    }
+    Ok(Vec::new(alloc))
+}
+
+/// How the store's texts end with one of them edited.
+fn ended(alloc: Global, edit: Edit) -> Result<Status, AllocError> {
+    let (which, old, new) = edit;
+    let text = match which {
+        Which::C => SMALL.c,
+        Which::S => SMALL.s,
+        Which::D => SMALL.d,
+        Which::E => SMALL.e,
+        Which::H => SMALL.h,
+    };
+    let text = edited(alloc, text, old, new)?;
+    if text.is_empty() {
+        return Ok(Status::Usage);
+    }
+    let text = text.as_slice();
+    let texts = match which {
+        Which::C => Texts { c: text, ..SMALL },
+        Which::S => Texts { s: text, ..SMALL },
+        Which::D => Texts { d: text, ..SMALL },
+        Which::E => Texts { e: text, ..SMALL },
+        Which::H => Texts { h: text, ..SMALL },
+    };
+    Ok(verify(alloc, texts, Vec::new(alloc))?.status)
+}
+
+#[test]
+fn one_edit_leaves_the_form(rt: HostRuntime) -> Result<(), Fail> {
+    for (number, edit) in OUTSIDE.iter().enumerate() {
+        assert_eq!(rt; ended(rt.alloc(), *edit)?, Status::NotYet, "{number}");
+    }
+    Ok(())
+}
+
+#[test]
+fn one_line_leaves_the_form(rt: HostRuntime) -> Result<(), Fail> {
+    for (number, line) in CIRCUITS.iter().enumerate() {
+        let mut lines = Vec::from_slice(rt.alloc(), LAST)?;
+        lines.extend_from_slice(line)?;
+        let text = edited(rt.alloc(), SMALL.c, LAST, lines.as_slice())?;
+        let texts = Texts { c: text.as_slice(), ..SMALL };
+        let status = verify(rt.alloc(), texts, Vec::new(rt.alloc()))?.status;
+        assert_eq!(rt; status, Status::NotYet, "{number}");
+    }
+    Ok(())
+}
+
+#[test]
+fn unusual_spellings_are_read(rt: HostRuntime) -> Result<(), Fail> {
+    for (number, edit) in INSIDE.iter().enumerate() {
+        assert_eq!(rt; ended(rt.alloc(), *edit)?, Status::Yes, "{number}");
+    }
+    Ok(())
+}
+
+/// The place after a text.
+fn end_of(text: &[u8]) -> Place {
+    let mut cursor = Cursor::new(text);
+    while cursor.peek().is_some() {
+        cursor.bump();
+    }
+    cursor.place()
+}
+
+fn is_past(place: Place, end: Place) -> bool {
+    place.line > end.line || (place.line == end.line && place.column > end.column)
+}
+
+/// Is a fault of trees at a place that isn't past the end?
+fn is_within(fault: SexprFault, end: Place) -> bool {
+    match fault {
+        SexprFault::TooDeep(at) => !is_past(at, end),
+        SexprFault::Unopened(at) => !is_past(at, end),
+        SexprFault::Unclosed(at) => !is_past(at, end),
+        SexprFault::BadAtom(at) => !is_past(at, end),
+        SexprFault::Memory => false,
+    }
+}
+
+#[test]
+fn prefixes_are_read_or_have_a_fault_within(rt: HostRuntime) -> Result<(), Fail> {
+    for text in [SMALL.s, SMALL.h] {
+        for (k, _) in text.iter().enumerate() {
+            let prefix = &text[..k];
+            if let Err(fault) = knox_sexpr::read(rt.alloc(), prefix) {
+                assert!(rt; is_within(fault, end_of(prefix)), "{k}");
+            }
+        }
+    }
+    for (k, _) in SMALL.c.iter().enumerate() {
+        let prefix = &SMALL.c[..k];
+        if let Err(fault) = btor_read::read_circuit(rt.alloc(), prefix) {
+            assert!(rt; fault.line <= end_of(prefix).line, "{k}");
+        }
+    }
+    Ok(())
+}
