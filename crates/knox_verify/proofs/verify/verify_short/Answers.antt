@@ -8,13 +8,9 @@ returns-clause-judged c =
     let p = parts_of dev c.in_ok-script.script in
     record {
       parts = p;
-      meant = record {
-        circuit = c.in_ok-dev.ensures.circuit;
-        driver = c.in_ok-dev.ensures.driver;
-        spec = c.is_well_formed.ensures;
-        emulator = c.is_well_formed-2.ensures;
-        fit = c.in_ok-dev.ensures.fit;
-        script = c.in_ok-script.ensures.fits;
+      form = record {
+        meant = record { device = c.in_ok-dev.ensures.meant; script = c.in_ok-script.ensures.meant };
+        starts = c.in_ok-script.ensures.starts;
       };
       judged = judged-parts c.in_ok-verdict.verdict p c.closed_implies_agreement_on_wires.ensures c.devices_are_designs.ensures
           (c.scripts_are_formed.ensures.script dev.circuit dev.spec dev.driver dev.emulator) c.in_ok-script.ensures.starts c.in_ok-verdict.ensures.decided;
