@@ -4,6 +4,8 @@ pub mod Faults
 pub mod Judgements
 pub mod Meanings
 pub mod Verdicts
+pub mod Checking
+pub mod CheckLines
 pub mod Lines
 pub mod Outcomes
 pub mod Runs

@@ -1,6 +1,8 @@
 //! The program `knox`: verifies a hardware security module against its specification.
 #![tactic(auto)]
 
+mod check_saying;
+mod checking;
 mod command;
 mod delivery;
 mod judging;
