@@ -6,3 +6,4 @@ pub mod Verified
 pub mod Explained
 pub mod Deciding
 pub mod Agreed
+pub mod CheckSteps

@@ -69,7 +69,7 @@ Explains ws before after out out' err err' status.ReadFault =
     × Whole out out' [] × Whole err err' (cannot_read_line (slice_index_or (names_of ws) which []))
 Explains ws before after out out' err err' status.Text =
     ((which : ℕ) × IsBuilt (command_of ws) × ReadUpTo (names_of ws) which TooLong before after
-        × Whole out out' [] × Whole err err' (too_long_line (letter_at (letters_of (command_of ws)) which)))
+    × Whole out out' [] × Whole err err' (too_long_line (letter_at (letters_of (command_of ws)) which)))
     ⊎ Unreadable ws before after out out' err err'
 Explains ws before after out out' err err' status.WriteFault = Rose out.faults out'.faults ⊎ Rose err.faults err'.faults
 Explains ws before after out out' err err' status.Memory = Unit {0}

@@ -47,11 +47,7 @@ pub fn judge<F: Shelf>(
 
 /// How the check of the two texts ends that a shelf gave last, of which this is the place of the
 /// first.
-pub fn check_given<F: Shelf>(
-    alloc: Global,
-    shelf: &F,
-    first: usize,
-) -> Result<CheckEnd, Unchecked>
+pub fn check_given<F: Shelf>(alloc: Global, shelf: &F, first: usize) -> Result<CheckEnd, Unchecked>
     requires two { length (drop first (F.given shelf.now)) ≡ 2 }
     requires within { Within (texts_of (drop first (F.given shelf.now))) }
     requires places { first + 2 ≤ 2 ^ 64 }

@@ -2,6 +2,8 @@
 #![tactic(auto)]
 
 mod check_saying;
+#[cfg(test)]
+mod check_tests;
 mod checking;
 mod command;
 mod delivery;
