@@ -129,7 +129,7 @@ pub ends-verified : (first d : Proof) (old now : Result (List ProofLine) ProofFa
 ends-verified first d old now h e closed = (h.before, all-read first d old now h e, (d, h.accepted, closed))
 
 pub ends-open : (first d : Proof) (old now : Result (List ProofLine) ProofFault) → HasAccepted first d old now → now ≡ Ok [] → is_closed d ≡ false → EndsLeft first old NoEmptyClause
-ends-open first d old now h e open = (h.before, all-read first d old now h e, (d, h.accepted, open))
+ends-open first d old now h e stays = (h.before, all-read first d old now h e, (d, h.accepted, stays))
 
 -- a closed derivation shows that no assignment makes the formula true
 pub shows-verified : (first d : Proof) (old now : Result (List ProofLine) ProofFault) → HasAccepted first d old now → IsUnsatisfiable d → Shows Verified first.cnf

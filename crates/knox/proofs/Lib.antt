@@ -7,3 +7,4 @@ pub mod Explained
 pub mod Deciding
 pub mod Agreed
 pub mod CheckSteps
+pub mod OneEnd

@@ -1,11 +1,11 @@
 //! Checks the proof of a formula: each line is admitted as soon as it is read, so that no more than
 //! one of them is held.
-ghost use Rattle.std.specs.Prelude.{◌≡◌, ◌≤◌, ◌⊎◌, length, List, MatchResult, Ok, Err, OnOk, OnErr, IfErr};
+ghost use Rattle.std.specs.Prelude.{◌≡◌, ◌≤◌, ◌⊎◌, ℕ, length, List, MatchResult, Ok, Err, OnOk, OnErr, IfErr};
 ghost use Rattle.lrat_check.specs.declared.step.Step.TheVariants.{Memory};
 ghost use Rattle.proof_text.specs.declared.fault.ProofFault.TheVariants as fault;
 ghost use Rattle.proof_text.specs.declared.proof_line.ProofLine.{ProofLine};
 ghost use Rattle.proof_text.specs.Unread.{lines_left};
-ghost use Rattle.knox.specs.Checking.{line_number, with_line, EndsAs, Shows, Checks, Unchecks, cause_of};
+ghost use Rattle.knox.specs.Checking.{line_number, with_line, EndsAs, Shows, Checks, HasFault, Unchecks, cause_of};
 
 use lrat_check::{Derivation, Step};
 use proof_text::{LratReader, ProofFault, ProofLine, read_cnf};
@@ -57,8 +57,8 @@ fn take_line(derivation: &mut Derivation, line: &ProofLine) -> Result<(), Step>
 /// Reads what is left of a proof, behind a line that is refused: a fault there comes first.
 fn read_on(alloc: Global, reader: LratReader<'_>) -> Result<(), ProofFault>
     ensures { MatchResult result
-        (λ _. (ls : List ProofLine) × (lines_left reader ≡ Ok ls))
-        (λ f. (f ≡ fault.Memory) ⊎ (lines_left reader ≡ Err f)) }
+        (λ _. (ls : List ProofLine) × (lines_left reader.entry ≡ Ok ls))
+        (λ f. (f ≡ fault.Memory) ⊎ (lines_left reader.entry ≡ Err f)) }
 {
     let mut reader = reader;
     while let Some(_) = reader.next_line(alloc)? {}
@@ -72,8 +72,8 @@ fn check_lines(
     reader: LratReader<'_>,
 ) -> Result<CheckEnd, ProofFault>
     ensures ends { MatchResult result
-        (λ end. (ls : List ProofLine) × (lines_left reader ≡ Ok ls) × EndsAs derivation ls end)
-        (λ f. (f ≡ fault.Memory) ⊎ (lines_left reader ≡ Err f)) }
+        (λ end. (ls : List ProofLine) × (lines_left reader.entry ≡ Ok ls) × EndsAs derivation ls end)
+        (λ f. (f ≡ fault.Memory) ⊎ (lines_left reader.entry ≡ Err f)) }
     ensures shows { MatchResult result (λ end. Shows end derivation.cnf) (λ _. Unit {0}) }
 {
     let mut derivation = derivation;
@@ -105,6 +105,14 @@ fn cause(which: usize, fault: ProofFault) -> Unchecked
     }
 }
 
+/// The check of two texts has one end, or one fault, and not both.
+fn checks_have_one_end()
+    ensures end { (f p : List ℕ) (a b : CheckEnd) → Checks a f p → Checks b f p → a ≡ b }
+    ensures no_fault { (f p : List ℕ) (a : CheckEnd) (which : ℕ) (why : ProofFault) → Checks a f p → HasFault which why f p → ⊥ }
+    ensures fault { (f p : List ℕ) (which other : ℕ) (why how : ProofFault) → HasFault which why f p → HasFault other how f p → (which ≡ other) × (why ≡ how) }
+{
+}
+
 /// Checks a proof of a formula, by their bytes.
 pub fn check_texts(alloc: Global, formula: &[u8], proof: &[u8]) -> Result<CheckEnd, Unchecked>
     requires formula { length formula.now ≤ 67108864 }
@@ -113,6 +121,7 @@ pub fn check_texts(alloc: Global, formula: &[u8], proof: &[u8]) -> Result<CheckE
         (λ end. Checks end formula.now proof.now)
         (λ why. Unchecks why formula.now proof.now) }
 {
+    checks_have_one_end();
     let cnf = match read_cnf(alloc, formula) {
         Ok(cnf) => cnf,
         Err(fault) => return Err(cause(0, fault)),
