@@ -1,5 +1,5 @@
--- The last five texts of a list, one by one.
-use Rattle.std.proofs.Common.{◌≡◌, ◌∙◌, ◌<◌, ◌+◌, ℕ, zero, suc, List, [], ◌∷◌, length, drop, ap, sym, Option, Some, zero-add, arith, subst}
+-- The last five texts of a list, or the last two, one by one.
+use Rattle.std.proofs.Common.{◌≡◌, ◌∙◌, ◌<◌, ◌≤◌, ◌+◌, ℕ, zero, suc, List, [], ◌∷◌, length, drop, ap, sym, Option, Some, zero-add, arith, subst}
 use Rattle.std.specs.List.{slice_get}
 use Rattle.std.specs.Option.{option_map, unwrap_or}
 use Rattle.std.proofs.lemmas.Option.{slice_get_past}
@@ -44,6 +44,24 @@ five-drop es first c s d e h n p q r t u =
     let along : (k : ℕ) → bytes_at (drop first es) k ≡ bytes_at es (first + k) = λ k. ap (option_map (λ e. e.1)) (sym (slice_get-drop es first k)) in
     let start : first + 0 ≡ first = omega arith in
     five (drop first es) c s d e h n (along 0 ∙ ap (bytes_at es) start ∙ p) (along 1 ∙ q) (along 2 ∙ r) (along 3 ∙ t) (along 4 ∙ u)
+
+-- two entries are known by their bytes
+two : (es : List Named) (f p : Bytes) → length es ≡ 2 → bytes_at es 0 ≡ Some f → bytes_at es 1 ≡ Some p → texts_of es ≡ f ∷ p ∷ []
+two [] f p n u v = absurd (omega (arith, n))
+two (a ∷ []) f p n u v = absurd (omega (arith, n))
+two (a ∷ b ∷ []) f p n u v = ap (λ z. z ∷ b.1 ∷ []) (same_bytes a.1 f u) ∙ ap (λ z. f ∷ z ∷ []) (same_bytes b.1 p v)
+two (a ∷ b ∷ x ∷ es) f p n u v = absurd (omega (arith, n))
+
+-- the same of the entries past a place
+pub two-drop : (es : List Named) (first : ℕ) (f p : Bytes) → length (drop first es) ≡ 2 → bytes_at es first ≡ Some f → bytes_at es (first + 1) ≡ Some p → texts_of (drop first es) ≡ f ∷ p ∷ []
+two-drop es first f p n u v =
+    let along : (k : ℕ) → bytes_at (drop first es) k ≡ bytes_at es (first + k) = λ k. ap (option_map (λ e. e.1)) (sym (slice_get-drop es first k)) in
+    let start : first + 0 ≡ first = omega arith in
+    two (drop first es) f p n (along 0 ∙ ap (bytes_at es) start ∙ u) (along 1 ∙ v)
+
+-- each of two texts within the limit is so
+pub two-within : (ts : List Bytes) (f p : Bytes) → Within ts → ts ≡ f ∷ p ∷ [] → (length f ≤ limit) × (length p ≤ limit)
+two-within ts f p within are = let w = subst Within are within in (w.0, w.1.0)
 
 -- none of five texts within the limit is over it
 pub not_long : (ts : List Bytes) (c s d e h : Bytes) (letter : Letter) → Within ts → ts ≡ c ∷ s ∷ d ∷ e ∷ h ∷ [] → limit < length (lettered letter c s d e h) → ⊥

@@ -90,4 +90,5 @@ command_of (name ∷ ws) = named name ws
 -- the words after a command's name are enough for its texts
 abbrev pub HasTexts : Command → ℕ → Type 0
 HasTexts (Verify budget paths) count = 5 ≤ count
+HasTexts Check count = count ≡ 2
 HasTexts _ count = Unit {0}

@@ -1,5 +1,5 @@
 -- What each status of a run says.
-use Rattle.std.specs.Prelude.{◌≡◌, ℕ, List, [], ◌++◌, None, take, slice_index_or, ◌⊎◌}
+use Rattle.std.specs.Prelude.{◌≡◌, ℕ, List, [], ◌++◌, Option, None, take, slice_index_or, ◌⊎◌}
 use Rattle.knox_edge.specs.declared.shelf.ShelfEnd.TheVariants.{Failed, TooLong}
 use Rattle.knox_edge.specs.Counts.{Rose}
 use Rattle.knox_edge.specs.Texts.{Bytes, Reads}
@@ -9,11 +9,19 @@ use Rattle.script_core.specs.declared.parts.HintNo.{HintNo}
 use Rattle.script_core.specs.declared.parts.Choices.{Choices}
 use Rattle.knox_verify.specs.declared.verdict.Verdict.{Verdict}
 use Rattle.knox_verify.specs.declared.verdict.Verdict.TheVariants.{Yes, Undecided, TooWide}
+use Rattle.lrat_check.specs.declared.step.Step.{Step}
+use Rattle.proof_text.specs.declared.fault.ProofFault.{ProofFault}
+use Rattle.knox.specs.declared.command.Command.{Command}
+use Rattle.knox.specs.declared.checking.CheckEnd.{CheckEnd}
+use Rattle.knox.specs.declared.checking.CheckEnd.TheVariants.{Verified, Rejected, NoEmptyClause}
+use Rattle.knox.specs.declared.checking.Unchecked.TheVariants.{Faulty}
 use Rattle.knox.specs.Commands.{command_of}
+use Rattle.knox.specs.Checking.{ChecksTexts, UnchecksTexts}
+use Rattle.knox.specs.CheckLines.{check_line, fault_line}
 use Rattle.knox.specs.Reading.{ReadWhole, ReadUpTo, texts_of}
 use Rattle.knox.specs.Verdicts.{JudgesTexts, InNoForm, printed}
-use Rattle.knox.specs.Lines.{usage_line, not_yet_line, cannot_read_line, letter_at, too_long_line}
-use Rattle.knox.specs.Runs.{IsVerify, IsOther, Sunk, Whole, names_of}
+use Rattle.knox.specs.Lines.{usage_line, not_yet_line, cannot_read_line, letters_of, letter_at, too_long_line}
+use Rattle.knox.specs.Runs.{IsVerify, IsCheck, IsOther, Sunk, Whole, names_of}
 
 -- the five texts were read and have this verdict, which was written to `out`, and nothing to `err`
 abbrev pub Judged : List Bytes → Reads → Reads → Sunk → Sunk → Sunk → Sunk → Verdict → Type 0
@@ -22,9 +30,31 @@ Judged ws before after out out' err err' verdict =
     × ((whole : ReadWhole (names_of ws) before after) × JudgesTexts verdict (texts_of whole.entries))
     × Whole out out' (printed verdict) × Whole err err' []
 
+-- the two texts were read, and their check ends so, which was written to `out`, and nothing to `err`
+abbrev pub CheckedAs : List Bytes → Reads → Reads → Sunk → Sunk → Sunk → Sunk → CheckEnd → Type 0
+CheckedAs ws before after out out' err err' end =
+    IsCheck (command_of ws)
+    × ((whole : ReadWhole (names_of ws) before after) × ChecksTexts end (texts_of whole.entries))
+    × Whole out out' (check_line end) × Whole err err' []
+
+-- the two texts were read, and one has a fault, which was written to `err`, and nothing to `out`
+abbrev pub Unreadable : List Bytes → Reads → Reads → Sunk → Sunk → Sunk → Sunk → Type 0
+Unreadable ws before after out out' err err' =
+    (which : ℕ) × (why : ProofFault) × IsCheck (command_of ws)
+    × ((whole : ReadWhole (names_of ws) before after) × UnchecksTexts (Faulty which why) (texts_of whole.entries))
+    × Whole out out' [] × Whole err err' (fault_line (letter_at (letters_of (command_of ws)) which) why)
+
+-- a command that is built
+abbrev pub IsBuilt : Option Command → Type 0
+IsBuilt command = IsVerify command ⊎ IsCheck command
+
 -- why a status comes, and what was written with it
 abbrev pub Explains : List Bytes → Reads → Reads → Sunk → Sunk → Sunk → Sunk → Status → Type 0
 Explains ws before after out out' err err' status.Yes = Judged ws before after out out' err err' Yes
+Explains ws before after out out' err err' status.Done = CheckedAs ws before after out out' err err' Verified
+Explains ws before after out out' err err' status.No =
+    ((number : ℕ) × (why : Step) × CheckedAs ws before after out out' err err' (Rejected number why))
+    ⊎ CheckedAs ws before after out out' err err' NoEmptyClause
 Explains ws before after out out' err err' status.Undecided =
     (hint : HintNo) × (choices : Choices) × Judged ws before after out out' err err' (Undecided hint choices)
 Explains ws before after out out' err err' status.TooWide =
@@ -35,11 +65,12 @@ Explains ws before after out out' err err' status.NotYet =
     ((IsOther (command_of ws) × (after ≡ before)) ⊎ (IsVerify (command_of ws) × (whole : ReadWhole (names_of ws) before after) × InNoForm (texts_of whole.entries)))
     × Whole out out' [] × Whole err err' not_yet_line
 Explains ws before after out out' err err' status.ReadFault =
-    (which : ℕ) × IsVerify (command_of ws) × ReadUpTo (names_of ws) which Failed before after × Rose before.faults after.faults
+    (which : ℕ) × IsBuilt (command_of ws) × ReadUpTo (names_of ws) which Failed before after × Rose before.faults after.faults
     × Whole out out' [] × Whole err err' (cannot_read_line (slice_index_or (names_of ws) which []))
 Explains ws before after out out' err err' status.Text =
-    (which : ℕ) × IsVerify (command_of ws) × ReadUpTo (names_of ws) which TooLong before after
-    × Whole out out' [] × Whole err err' (too_long_line (letter_at which))
+    ((which : ℕ) × IsBuilt (command_of ws) × ReadUpTo (names_of ws) which TooLong before after
+    × Whole out out' [] × Whole err err' (too_long_line (letter_at (letters_of (command_of ws)) which)))
+    ⊎ Unreadable ws before after out out' err err'
 Explains ws before after out out' err err' status.WriteFault = Rose out.faults out'.faults ⊎ Rose err.faults err'.faults
 Explains ws before after out out' err err' status.Memory = Unit {0}
 

@@ -1,0 +1,9 @@
+pub mod Commands
+pub mod Reading
+pub mod Verdicts
+pub mod Checking
+pub mod CheckLines
+pub mod Lines
+pub mod Outcomes
+pub mod Runs
+pub mod Consequences

@@ -6,21 +6,26 @@ use Rattle.knox_edge.specs.declared.shelf.ShelfEnd.TheVariants.{Failed, TooLong,
 use Rattle.knox_edge.specs.Counts.{Rose}
 use Rattle.knox_edge.specs.Texts.{Bytes, Reads}
 use Rattle.knox.specs.declared.command.Command.{Command}
-use Rattle.knox.specs.declared.command.Command.TheVariants.{Verify}
+use Rattle.knox.specs.declared.command.Command.TheVariants.{Verify, Check}
 use Rattle.knox.specs.declared.status.Status.{Status}
 use Rattle.knox.specs.declared.status.Status.TheVariants as status
 use Rattle.knox.specs.declared.outcome.Outcome.{Outcome}
-use Rattle.knox.specs.declared.outcome.Outcome.TheVariants.{NoCommand, UnbuiltCommand, Unread, Overlong, UnbuiltTexts, Judged, OutOfMemory}
+use Rattle.knox.specs.declared.outcome.Outcome.TheVariants.{NoCommand, UnbuiltCommand, Unread, Overlong, UnbuiltTexts, Judged, Checked, Faulty, OutOfMemory}
+use Rattle.knox.specs.declared.checking.CheckEnd.{CheckEnd}
+use Rattle.knox.specs.declared.checking.Unchecked.{Unchecked}
+use Rattle.knox.specs.declared.checking.Unchecked.TheVariants as unchecked
 use Rattle.knox_verify.specs.declared.verdict.Verdict.{Verdict}
 use Rattle.knox.specs.declared.reading.Refused.{Refused}
 use Rattle.knox.specs.declared.judging.Unjudged.{Unjudged}
 use Rattle.knox.specs.declared.judging.Unjudged.TheVariants as unjudged
 use Rattle.knox.specs.Commands.{command_of}
+use Rattle.knox.specs.Lines.{letters_of}
+use Rattle.knox.specs.Checking.{ChecksTexts, UnchecksTexts}
 use Rattle.knox.specs.Reading.{ReadWhole, ReadUpTo, texts_of}
 use Rattle.knox.specs.Verdicts.{JudgesTexts, InNoForm}
 use Rattle.knox.specs.Outcomes.{status_of, to_out, to_err}
 
--- the names of a verify command's texts: the five words after the first
+-- the names of a command's texts: five words after the first, or all of fewer
 abbrev pub names_of : List Bytes → List Bytes
 names_of ws = take 5 (drop 1 ws)
 
@@ -29,10 +34,16 @@ abbrev pub IsVerify : Option Command → Type 0
 IsVerify (Some (Verify budget paths)) = Unit {0}
 IsVerify _ = ⊥
 
+-- a check command
+abbrev pub IsCheck : Option Command → Type 0
+IsCheck (Some Check) = Unit {0}
+IsCheck _ = ⊥
+
 -- another command
 abbrev pub IsOther : Option Command → Type 0
 IsOther None = ⊥
 IsOther (Some (Verify budget paths)) = ⊥
+IsOther (Some Check) = ⊥
 IsOther (Some _) = Unit {0}
 
 -- why the reads of these five names, which led the shelf from one state to another, come to an outcome
@@ -43,14 +54,31 @@ Verifies names before after (Unread which) = ReadUpTo names which Failed before 
 Verifies names before after (Overlong which) = ReadUpTo names which TooLong before after
 Verifies names before after UnbuiltTexts = (whole : ReadWhole names before after) × InNoForm (texts_of whole.entries)
 Verifies names before after (Judged verdict) = (whole : ReadWhole names before after) × JudgesTexts verdict (texts_of whole.entries)
+Verifies names before after (Checked end) = ⊥
+Verifies names before after (Faulty which why) = ⊥
 Verifies names before after OutOfMemory =
+    ((which : ℕ) × ReadUpTo names which Memory before after) ⊎ ReadWhole names before after
+
+-- the same of the reads of two names, those of a formula and a proof
+abbrev pub ChecksNamed : List Bytes → Reads → Reads → Outcome → Type 0
+ChecksNamed names before after NoCommand = ⊥
+ChecksNamed names before after UnbuiltCommand = ⊥
+ChecksNamed names before after (Unread which) = ReadUpTo names which Failed before after
+ChecksNamed names before after (Overlong which) = ReadUpTo names which TooLong before after
+ChecksNamed names before after UnbuiltTexts = ⊥
+ChecksNamed names before after (Judged verdict) = ⊥
+ChecksNamed names before after (Checked end) = (whole : ReadWhole names before after) × ChecksTexts end (texts_of whole.entries)
+ChecksNamed names before after (Faulty which why) = (whole : ReadWhole names before after) × UnchecksTexts (unchecked.Faulty which why) (texts_of whole.entries)
+ChecksNamed names before after OutOfMemory =
     ((which : ℕ) × ReadUpTo names which Memory before after) ⊎ ReadWhole names before after
 
 -- why a run over these words comes to an outcome
 abbrev pub Because : List Bytes → Reads → Reads → Outcome → Type 0
 Because ws before after NoCommand = (command_of ws ≡ None) × (after ≡ before)
 Because ws before after UnbuiltCommand = IsOther (command_of ws) × (after ≡ before)
-Because ws before after outcome = IsVerify (command_of ws) × Verifies (names_of ws) before after outcome
+Because ws before after outcome =
+    (IsVerify (command_of ws) × Verifies (names_of ws) before after outcome)
+    ⊎ (IsCheck (command_of ws) × ChecksNamed (names_of ws) before after outcome)
 
 -- the outcome of a read that was refused
 abbrev pub outcome_of_refused : Refused → Outcome
@@ -66,6 +94,12 @@ abbrev pub outcome_of : Result Verdict Unjudged → Outcome
 outcome_of (Ok verdict) = Judged verdict
 outcome_of (Err unjudged.NotYet) = UnbuiltTexts
 outcome_of (Err unjudged.Memory) = OutOfMemory
+
+-- the outcome of a check
+abbrev pub outcome_of_check : Result CheckEnd Unchecked → Outcome
+outcome_of_check (Ok end) = Checked end
+outcome_of_check (Err (unchecked.Faulty which why)) = Faulty which why
+outcome_of_check (Err unchecked.Memory) = OutOfMemory
 
 -- what a sink tells: the bytes that were written, where they are told, and the count of faults
 pub record Sunk : Type 0 where
@@ -105,4 +139,4 @@ Delivers out_text err_text wanted result out out' err err' =
 abbrev pub Ends : List Bytes → Status → Reads → Reads → Sunk → Sunk → Sunk → Sunk → Type 0
 Ends ws result before after out out' err err' =
     (outcome : Outcome) × Because ws before after outcome
-    × Delivers (to_out outcome) (to_err (names_of ws) outcome) (status_of outcome) result out out' err err'
+    × Delivers (to_out outcome) (to_err (letters_of (command_of ws)) (names_of ws) outcome) (status_of outcome) result out out' err err'

@@ -4,13 +4,18 @@ ghost use Rattle.knox_edge.specs.Texts.{bytes_of};
 ghost use Rattle.knox.specs.Runs.{Sunk, Says, Delivers};
 ghost use Rattle.knox.specs.Verdicts.{printed, undecided_line, choices_line, too_wide_line};
 ghost use Rattle.knox.specs.Lines.{cannot_read_line, letter_at, too_long_line};
-ghost use Rattle.knox.specs.Outcomes.{status_of, status_of_verdict, to_out, to_err};
+ghost use Rattle.knox.specs.CheckLines.{rejected_line, check_line, fault_line};
+ghost use Rattle.knox.specs.Outcomes.{status_of, status_of_verdict, status_of_check, to_out, to_err};
 
+use crate::check_saying::{fault, rejected};
+use crate::checking::CheckEnd;
 use crate::outcome::Outcome;
 use crate::saying::{cannot_read, choices, put_line, say, too_long, too_wide, undecided};
 use crate::status::Status;
 use knox_verify::Verdict;
 use knox_edge::Sink;
+use lrat_check::Step;
+use proof_text::ProofFault;
 use script_core::{Choices, HintNo};
 use std::alloc::Global;
 
@@ -77,15 +82,63 @@ fn say_unread<K: Sink>(alloc: Global, sink: &mut K, name: &[u8]) -> Status
 }
 
 /// Writes that a text has too many bytes.
-fn say_overlong<K: Sink>(alloc: Global, sink: &mut K, which: usize) -> Status
+fn say_overlong<K: Sink>(alloc: Global, sink: &mut K, letter: &[u8]) -> Status
     ensures { let old : Sunk = record { written = K.written sink.old; faults = K.faults sink.old } in
         let new : Sunk = record { written = K.written sink.new; faults = K.faults sink.new } in
-        Says (too_long_line (letter_at which)) Status.Text result old new }
+        Says (too_long_line letter.now) Status.Text result old new }
 {
-    let Ok(line) = too_long(alloc, which) else {
+    let Ok(line) = too_long(alloc, letter) else {
         return Status::Memory;
     };
     say(sink, line.as_slice(), Status::Text)
+}
+
+/// Writes that a line of a proof is refused.
+fn say_rejected<K: Sink>(alloc: Global, sink: &mut K, number: u32, why: Step) -> Status
+    ensures { let old : Sunk = record { written = K.written sink.old; faults = K.faults sink.old } in
+        let new : Sunk = record { written = K.written sink.new; faults = K.faults sink.new } in
+        Says (rejected_line number why) Status.No result old new }
+{
+    let Ok(line) = rejected(alloc, number, why) else {
+        return Status::Memory;
+    };
+    say(sink, line.as_bytes(), Status::No)
+}
+
+/// Writes how a check ended.
+fn say_checked<K: Sink>(alloc: Global, sink: &mut K, end: CheckEnd) -> Status
+    ensures { let old : Sunk = record { written = K.written sink.old; faults = K.faults sink.old } in
+        let new : Sunk = record { written = K.written sink.new; faults = K.faults sink.new } in
+        Says (check_line end) (status_of_check end) result old new }
+{
+    match end {
+        CheckEnd::Verified => say(sink, b"verified\n", Status::Done),
+        CheckEnd::Rejected(number, why) => say_rejected(alloc, sink, number, why),
+        CheckEnd::NoEmptyClause => say(sink, b"rejected no empty clause\n", Status::No),
+    }
+}
+
+/// Writes the fault of the text with a letter.
+fn say_fault<K: Sink>(alloc: Global, sink: &mut K, letter: &[u8], why: ProofFault) -> Status
+    ensures { let old : Sunk = record { written = K.written sink.old; faults = K.faults sink.old } in
+        let new : Sunk = record { written = K.written sink.new; faults = K.faults sink.new } in
+        Says (fault_line letter.now why) Status.Text result old new }
+{
+    let Ok(line) = fault(alloc, letter, why) else {
+        return Status::Memory;
+    };
+    say(sink, line.as_slice(), Status::Text)
+}
+
+/// The letter at a place, or no bytes past the end.
+fn letter(letters: &[u8], which: usize) -> &[u8]
+    ensures { result.now ≡ letter_at letters.now which }
+{
+    if which < letters.len() {
+        &letters[which..which + 1]
+    } else {
+        b""
+    }
 }
 
 /// The name at a place, or no bytes past the end.
@@ -98,11 +151,12 @@ fn name_at(names: &[Vec<u8>], which: usize) -> &[u8]
     }
 }
 
-/// Writes a verdict to `out`, and anything else to `err`. The names are those of the command's
-/// texts.
+/// Writes a verdict or the end of a check to `out`, and anything else to `err`. The letters and the
+/// names are those of the command's texts.
 pub fn deliver<O: Sink, E: Sink>(
     alloc: Global,
     outcome: &Outcome,
+    letters: &[u8],
     names: &[Vec<u8>],
     out: &mut O,
     err: &mut E,
@@ -111,14 +165,16 @@ pub fn deliver<O: Sink, E: Sink>(
         let out_new : Sunk = record { written = O.written out.new; faults = O.faults out.new } in
         let err_old : Sunk = record { written = E.written err.old; faults = E.faults err.old } in
         let err_new : Sunk = record { written = E.written err.new; faults = E.faults err.new } in
-        Delivers (to_out outcome.now) (to_err (bytes_of names.now) outcome.now) (status_of outcome.now) result out_old out_new err_old err_new }
+        Delivers (to_out outcome.now) (to_err letters.now (bytes_of names.now) outcome.now) (status_of outcome.now) result out_old out_new err_old err_new }
 {
     match outcome {
         Outcome::NoCommand => say(err, USAGE, Status::Usage),
         Outcome::UnbuiltCommand | Outcome::UnbuiltTexts => say(err, NOT_YET, Status::NotYet),
         Outcome::Unread(which) => say_unread(alloc, err, name_at(names, *which)),
-        Outcome::Overlong(which) => say_overlong(alloc, err, *which),
+        Outcome::Overlong(which) => say_overlong(alloc, err, letter(letters, *which)),
         Outcome::Judged(verdict) => say_verdict(alloc, out, verdict),
+        Outcome::Checked(end) => say_checked(alloc, out, *end),
+        Outcome::Faulty(which, why) => say_fault(alloc, err, letter(letters, *which), *why),
         Outcome::OutOfMemory => Status::Memory,
     }
 }

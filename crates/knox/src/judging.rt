@@ -1,9 +1,11 @@
-//! Gives five texts that were read to the verifier.
-ghost use Rattle.std.specs.Prelude.{◌≡◌, ◌≤◌, ◌+◌, ◌^◌, length, drop, IfOk, IfErr};
+//! Gives texts that were read to the verifier, or to the checker of proofs.
+ghost use Rattle.std.specs.Prelude.{◌≡◌, ◌≤◌, ◌+◌, ◌^◌, length, drop, IfOk, IfErr, MatchResult};
 ghost use Rattle.knox.specs.Reading.{Within, texts_of};
 ghost use Rattle.knox.specs.declared.judging.Unjudged.TheVariants.{NotYet};
 ghost use Rattle.knox.specs.Verdicts.{JudgesTexts, InNoForm};
+ghost use Rattle.knox.specs.Checking.{ChecksTexts, UnchecksTexts};
 
+use crate::checking::{CheckEnd, Unchecked, check_texts};
 use knox_edge::Shelf;
 use knox_verify::{Verdict, VerifyFault, verify_texts};
 use std::alloc::Global;
@@ -42,4 +44,19 @@ pub fn judge<F: Shelf>(
         Err(VerifyFault::Memory) => Err(Unjudged::Memory),
         Err(VerifyFault::Text(_, _)) => unreachable!(),
     }
+}
+
+/// How the check of the two texts ends that a shelf gave last, of which this is the place of the
+/// first.
+pub fn check_given<F: Shelf>(alloc: Global, shelf: &F, first: usize) -> Result<CheckEnd, Unchecked>
+    requires two { length (drop first (F.given shelf.now)) ≡ 2 }
+    requires within { Within (texts_of (drop first (F.given shelf.now))) }
+    requires places { first + 2 ≤ 2 ^ 64 }
+    ensures { MatchResult result
+        (λ end. ChecksTexts end (texts_of (drop first (F.given shelf.now))))
+        (λ why. UnchecksTexts why (texts_of (drop first (F.given shelf.now)))) }
+{
+    let formula = shelf.text(first);
+    let proof = shelf.text(first + 1);
+    check_texts(alloc, formula, proof)
 }

@@ -1,6 +1,10 @@
 //! The program `knox`: verifies a hardware security module against its specification.
 #![tactic(auto)]
 
+mod check_saying;
+#[cfg(test)]
+mod check_tests;
+mod checking;
 mod command;
 mod delivery;
 #[cfg(test)]

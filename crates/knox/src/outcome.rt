@@ -1,7 +1,9 @@
 //! What a run comes to before it writes.
 ghost use Rattle.std.specs.Prelude.{◌≡◌, ◌∷◌};
 
+use crate::checking::CheckEnd;
 use knox_verify::Verdict;
+use proof_text::ProofFault;
 
 /// What a run has to say. A number counts the command's texts from 0.
 #[derive(Drop)]
@@ -18,6 +20,10 @@ pub enum Outcome {
     UnbuiltTexts,
     /// The texts have this verdict.
     Judged(Verdict),
+    /// The check of a proof ends so.
+    Checked(CheckEnd),
+    /// This text has this fault.
+    Faulty(usize, ProofFault),
     /// Memory ran out.
     OutOfMemory,
 }

@@ -2,11 +2,14 @@
 ghost use Rattle.std.specs.Prelude.{◌≡◌, Some, None, length, take, Ok};
 ghost use Rattle.knox_edge.specs.Texts.{Reads, bytes_of};
 ghost use Rattle.knox.specs.Consequences.{Explains, AsksPrefix};
-ghost use Rattle.knox.specs.Runs.{Sunk, Verifies, Because, Ends, names_of, outcome_of, outcome_of_refused};
+ghost use Rattle.knox.specs.Commands.{command_of};
+ghost use Rattle.knox.specs.Lines.{letters_of};
+ghost use Rattle.knox.specs.Runs.{Sunk, Verifies, ChecksNamed, Because, Ends, names_of, outcome_of, outcome_of_check, outcome_of_refused};
 
+use crate::checking::{CheckEnd, Unchecked};
 use crate::command::{Command, read_command};
 use crate::delivery::deliver;
-use crate::judging::{Unjudged, judge};
+use crate::judging::{Unjudged, check_given, judge};
 use crate::outcome::Outcome;
 use crate::reading::{Refused, read_texts};
 use crate::status::Status;
@@ -15,7 +18,7 @@ use crate::words::Words;
 use knox_edge::{Shelf, ShelfEnd, Sink};
 use std::alloc::Global;
 
-/// The names of a verify command's texts: the five words after the first.
+/// The names of a command's texts: five words after the first, or all of fewer.
 fn text_names(words: &[Vec<u8>]) -> &[Vec<u8>]
     ensures { bytes_of result.now ≡ names_of (bytes_of words.now) }
 {
@@ -48,6 +51,30 @@ fn verify<F: Shelf>(
     match read_texts(names, shelf) {
         Ok(first) => judged(judge(alloc, &*shelf, first, budget, paths)),
         Err(refused) => unread(refused),
+    }
+}
+
+/// Checks the texts of these names, which are the two of a check command.
+fn check<F: Shelf>(alloc: Global, names: &[Vec<u8>], shelf: &mut F) -> Outcome
+    requires { length names.now ≡ 2 }
+    ensures { let before : Reads = record { names = F.names shelf.old; given = F.given shelf.old; taken = F.taken shelf.old; faults = F.faults shelf.old } in
+        let after : Reads = record { names = F.names shelf.new; given = F.given shelf.new; taken = F.taken shelf.new; faults = F.faults shelf.new } in
+        ChecksNamed (bytes_of names.now) before after result }
+{
+    match read_texts(names, shelf) {
+        Ok(first) => checked(check_given(alloc, &*shelf, first)),
+        Err(refused) => unread(refused),
+    }
+}
+
+/// What a check comes to.
+fn checked(end: Result<CheckEnd, Unchecked>) -> Outcome
+    ensures { result ≡ outcome_of_check end }
+{
+    match end {
+        Ok(end) => Outcome::Checked(end),
+        Err(Unchecked::Faulty(which, why)) => Outcome::Faulty(which, why),
+        Err(Unchecked::Memory) => Outcome::OutOfMemory,
     }
 }
 
@@ -84,7 +111,19 @@ fn work<F: Shelf>(alloc: Global, words: &[Vec<u8>], shelf: &mut F) -> Outcome
         Some(Command::Verify { budget, paths }) => {
             verify(alloc, text_names(words), shelf, budget, paths)
         }
+        Some(Command::Check) => check(alloc, text_names(words), shelf),
         Some(_) => Outcome::UnbuiltCommand,
+    }
+}
+
+/// The letters of the texts of the command that the words are.
+fn text_letters(words: &[Vec<u8>]) -> &'static [u8]
+    ensures { result.now ≡ letters_of (command_of (bytes_of words.now)) }
+{
+    match read_command(words) {
+        Some(Command::Verify { .. }) => b"CSDEH",
+        Some(Command::Check) => b"FP",
+        _ => b"",
     }
 }
 
@@ -94,7 +133,8 @@ fn work<F: Shelf>(alloc: Global, words: &[Vec<u8>], shelf: &mut F) -> Outcome
 /// - `Usage` comes where the words are no command, and nothing is read.
 /// - `NotYet` comes where the command isn't built, and then nothing is read, or where a text is in
 ///   no form that is built.
-/// - `ReadFault` and `Text` come where a read was refused.
+/// - `ReadFault` and `Text` come where a read was refused; `Text` also where a text of a check has a
+///   fault.
 /// - `WriteFault` comes in place of the status that was to come, where a put failed.
 /// - `Memory` may come at any point.
 pub fn run<F: Shelf, O: Sink, E: Sink>(
@@ -124,5 +164,6 @@ pub fn run<F: Shelf, O: Sink, E: Sink>(
 {
     let words = words.items.as_slice();
     let outcome = work(alloc, words, shelf);
-    deliver(alloc, &outcome, text_names(words), out, err)
+    let letters = text_letters(words);
+    deliver(alloc, &outcome, letters, text_names(words), out, err)
 }

@@ -1,7 +1,7 @@
 //! Writes lines, each as one piece.
 ghost use Rattle.std.specs.Prelude.{◌≡◌, MatchResult, IfOk, string_bytes};
 ghost use Rattle.knox.specs.Runs.{Sunk, Whole, Stops, Says};
-ghost use Rattle.knox.specs.Lines.{cannot_read_line, letter_at, too_long_line};
+ghost use Rattle.knox.specs.Lines.{cannot_read_line, too_long_line};
 ghost use Rattle.knox.specs.Verdicts.{undecided_line, choices_line, too_wide_line};
 
 use crate::status::Status;
@@ -44,25 +44,12 @@ pub fn cannot_read(alloc: Global, name: &[u8]) -> Result<Vec<u8>, AllocError>
     Ok(line)
 }
 
-/// The letter of a verify command's text, by its place.
-fn letter(which: usize) -> &'static [u8]
-    ensures { result.now ≡ letter_at which }
-{
-    match which {
-        0 => b"C",
-        1 => b"S",
-        2 => b"D",
-        3 => b"E",
-        _ => b"H",
-    }
-}
-
 /// The line of a text with too many bytes.
-pub fn too_long(alloc: Global, which: usize) -> Result<Vec<u8>, AllocError>
-    ensures { IfOk result (λ line. line.items ≡ too_long_line (letter_at which)) }
+pub fn too_long(alloc: Global, letter: &[u8]) -> Result<Vec<u8>, AllocError>
+    ensures { IfOk result (λ line. line.items ≡ too_long_line letter.now) }
 {
     let mut line = Vec::from_slice(alloc, b"text ")?;
-    line.extend_from_slice(letter(which))?;
+    line.extend_from_slice(letter)?;
     line.extend_from_slice(b" TooLong\n")?;
     Ok(line)
 }

@@ -7,6 +7,10 @@ ghost use Rattle.knox.specs.Outcomes.{number_of};
 pub enum Status {
     /// The two worlds agree.
     Yes,
+    /// The command did its work: a proof is verified.
+    Done,
+    /// A proof is rejected.
+    No,
     /// Choices falsify a hint, which shows nothing of the two worlds.
     Undecided,
     /// A text has a fault.
@@ -32,6 +36,8 @@ impl Status {
     {
         match self {
             Status::Yes => 0,
+            Status::Done => 0,
+            Status::No => 1,
             Status::Undecided => 2,
             Status::Text => 5,
             Status::Usage => 6,

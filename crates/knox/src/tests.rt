@@ -86,7 +86,6 @@ fn commands_that_are_not_built(rt: HostRuntime) -> Result<(), Fail> {
         "replay c s d e t",
         "prove f budget 007",
         "sat f",
-        "check f p",
         "selftest 064",
     ];
     for line in lines {

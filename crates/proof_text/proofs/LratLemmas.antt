@@ -55,26 +55,3 @@ after-none (Err f) = refl
 after-push : (xs more : List ProofLine) (r : Result (List ProofLine) ProofFault) → after xs (and_then r (λ es. Ok (more ++ es))) ≡ after (xs ++ more) r
 after-push xs more (Ok es) = ap (λ l. Ok l) (sym (append_assoc xs more es))
 after-push xs more (Err f) = refl
-
-answered : {A : Type 0} (r want : Result A ProofFault) (x : A) → Answers r want → r ≡ Ok x → want ≡ Ok x
-answered r want x (inl m) e = cc
-answered r want x (inr w) e = sym w ∙ e
-
-pub lines-more : (n : ℕ) (xs : List ProofLine) (line text rest : List ℕ) (r : Result (Option ProofLine) ProofFault) (e : Option ProofLine) → lines text ≡ line ∷ lines rest → Answers r (line_of n line) → r ≡ Ok e → after xs (lines_of n (lines text)) ≡ after (xs ++ option_to_list e) (lines_of (n + 1) (lines rest))
-lines-more n xs line text rest r e w a k =
-    ap (λ ls. after xs (lines_of n ls)) w
-    ∙ ap (λ o. after xs (and_then o (λ z. and_then (lines_of (n + 1) (lines rest)) (λ es. Ok (option_to_list z ++ es))))) (answered r (line_of n line) e a k)
-    ∙ after-push xs (option_to_list e) (lines_of (n + 1) (lines rest))
-
-refused : {A B : Type 0} (r : Result A ProofFault) (f : ProofFault) (want : Result A ProofFault) (rest : A → Result B ProofFault) → Answers r want → r ≡ Err f → (f ≡ Memory) ⊎ (and_then want rest ≡ Err f)
-refused r f want rest (inl m) e = let k : f ≡ Memory = cc in inl k
-refused r f want rest (inr w) e = inr (ap (λ o. and_then o rest) (sym w ∙ e))
-
-refused-after : (xs : List ProofLine) (f : ProofFault) (want : Result (List ProofLine) ProofFault) → (f ≡ Memory) ⊎ (want ≡ Err f) → Answers (Err f) (after xs want)
-refused-after xs f want (inl m) = inl (ap (λ k. Err k) m)
-refused-after xs f want (inr w) = inr (sym (ap (after xs) w))
-
-pub lines-refused : (n : ℕ) (xs : List ProofLine) (line text rest : List ℕ) (r : Result (Option ProofLine) ProofFault) (f : ProofFault) → lines text ≡ line ∷ lines rest → Answers r (line_of n line) → r ≡ Err f → Answers {A = List ProofLine} (Err f) (after xs (lines_of n (lines text)))
-lines-refused n xs line text rest r f w a k =
-    subst (λ ls. Answers {A = List ProofLine} (Err f) (after xs (lines_of n ls))) (sym w)
-    (refused-after xs f (and_then (line_of n line) (λ z. and_then (lines_of (n + 1) (lines rest)) (λ es. Ok (option_to_list z ++ es)))) (refused r f (line_of n line) (λ z. and_then (lines_of (n + 1) (lines rest)) (λ es. Ok (option_to_list z ++ es))) a k))

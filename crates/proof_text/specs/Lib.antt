@@ -3,3 +3,5 @@ pub mod Results
 pub mod Dimacs
 pub mod Lrat
 pub mod Printing
+pub mod Unread
+pub mod Inside

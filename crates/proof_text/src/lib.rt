@@ -1,4 +1,5 @@
-//! DIMACS formulas and LRAT proofs as texts. Start at `read_cnf` and `read_lrat`. `specs/Words.antt` says
+//! DIMACS formulas and LRAT proofs as texts. Start at `read_cnf` and `read_lrat`, or at
+//! `LratReader`, which holds one line at a time. `specs/Words.antt` says
 //! which words a line has, `specs/Dimacs.antt` which formula a text means, and `specs/Lrat.antt` which
 //! proof, or the first fault.
 #![tactic(auto)]
@@ -12,6 +13,7 @@ mod number;
 mod place;
 mod printing;
 mod proof_line;
+mod reader;
 #[cfg(test)]
 mod tests;
 mod word;
@@ -22,3 +24,4 @@ pub use fault::ProofFault;
 pub use lrat::read_lrat;
 pub use printing::{formula_printed_again, print_cnf, print_lrat, proof_printed_again};
 pub use proof_line::ProofLine;
+pub use reader::LratReader;

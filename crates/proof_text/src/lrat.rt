@@ -11,9 +11,10 @@ use crate::fault::ProofFault;
 use crate::number::{read_number, unsigned};
 use crate::place::{Line, place};
 use crate::proof_line::ProofLine;
+use crate::reader::LratReader;
 use crate::word::{begins_with_c, cut_word};
 use knox_cnf::Lit;
-use knox_text::{Place, cut_line};
+use knox_text::Place;
 use sqlite_items::Items;
 use std::alloc::Global;
 
@@ -246,7 +247,8 @@ fn entry(alloc: Global, line: Line, text: &[u8]) -> Result<Option<ProofLine>, Pr
     }
 }
 
-fn read_line(alloc: Global, number: u32, text: &[u8]) -> Result<Option<ProofLine>, ProofFault>
+/// What a line means: a line of the proof, or none where it is left out.
+pub fn read_line(alloc: Global, number: u32, text: &[u8]) -> Result<Option<ProofLine>, ProofFault>
     requires { length text.now ≤ 67108864 }
     ensures { Answers result (line_of number text.now) }
 {
@@ -257,32 +259,15 @@ fn read_line(alloc: Global, number: u32, text: &[u8]) -> Result<Option<ProofLine
     entry(alloc, Line { number, width }, text)
 }
 
-fn push_some(lines: &mut Items<ProofLine>, line: Option<ProofLine>) -> Result<(), ProofFault>
-    ensures ok { OnOk result (lines.new ≡ lines.old ++ option_to_list line) }
-    ensures err { IfErr result (λ f. f ≡ Memory) }
-{
-    match line {
-        None => {}
-        Some(line) => lines.push(line)?,
-    }
-    Ok(())
-}
-
 /// The lines that an LRAT text of at most 64 MiB means, or its first fault in reading order.
 pub fn read_lrat(alloc: Global, bytes: &[u8]) -> Result<Items<ProofLine>, ProofFault>
     requires { length bytes.now ≤ 67108864 }
     ensures { Answers result (lrat_of bytes.now) }
 {
     let mut lines = Items::new(alloc);
-    let mut number = 1;
-    let mut rest = bytes;
-    while let Some(cut) = cut_line(rest) {
-        match read_line(alloc, number, cut.piece) {
-            Err(fault) => return Err(fault),
-            Ok(line) => push_some(&mut lines, line)?,
-        }
-        number += 1;
-        rest = cut.rest;
+    let mut reader = LratReader::new(bytes);
+    while let Some(line) = reader.next_line(alloc)? {
+        lines.push(line)?;
     }
     Ok(lines)
 }

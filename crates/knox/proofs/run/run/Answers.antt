@@ -15,8 +15,8 @@ returns g c =
     let err : Sunk = record { written = g.E.Sink.written c.args.err.now; faults = g.E.Sink.faults c.args.err.now } in
     let err' : Sunk = record { written = g.E.Sink.written c.deliver.new.err; faults = g.E.Sink.faults c.deliver.new.err } in
     let ends : Ends ws c.deliver.result before after out out' err err' =
-    Ends-by ws (bytes_of c.as_slice-words.result.now) (bytes_of c.text_names.result.now) before after c.work-outcome.result c.deliver.result out out' err err'
-    (ap bytes_of c.as_slice-words.ensures.value) c.text_names.ensures c.work-outcome.ensures c.deliver.ensures in
+    Ends-by ws (bytes_of c.as_slice-words.result.now) (bytes_of c.text_names.result.now) c.text_letters-letters.result.now before after c.work-outcome.result c.deliver.result out out' err err'
+    (ap bytes_of c.as_slice-words.ensures.value) c.text_names.ensures c.text_letters-letters.ensures c.work-outcome.ensures c.deliver.ensures in
     record {
       ends = ends;
       explained = explained ws c.deliver.result before after out out' err err' ends;

@@ -1,7 +1,7 @@
 use Rattle.std.proofs.Common.{◌∙◌, ap, sym, subst, Some}
 use Rattle.knox_edge.specs.Texts.{bytes_of}
-use Rattle.knox.specs.Runs.{IsVerify}
-use Rattle.knox.proofs.Verified.{length-names, Because-named}
+use Rattle.knox.specs.Runs.{IsVerify, IsCheck}
+use Rattle.knox.proofs.Verified.{length-names, length-two, Because-named, Because-checked}
 use Rattle.knox.proofs.run.work.Goals as goal
 
 pub verify-requires : goal.verify-requires
@@ -14,3 +14,14 @@ returns-in-Some-Verify g c =
     Because-named (bytes_of c.args.words.now) (bytes_of c.text_names.result.now) _ _ c.verify.result
     (subst IsVerify (ap Some (sym c.in-Some-Verify.field-0-is) ∙ c.in-Some-Verify.ensures.value) tt)
     c.text_names.ensures c.verify.ensures
+
+pub check-requires : goal.check-requires
+check-requires g c =
+    length-two c.args.words.now c.text_names.result.now c.text_names.ensures
+    (rw c.in-Some-Check.field-0-is at c.in-Some-Check.ensures.texts)
+
+pub returns-in-Some-Check : goal.returns-in-Some-Check
+returns-in-Some-Check g c =
+    Because-checked (bytes_of c.args.words.now) (bytes_of c.text_names.result.now) _ _ c.check.result
+    (subst IsCheck (ap Some (sym c.in-Some-Check.field-0-is) ∙ c.in-Some-Check.ensures.value) tt)
+    c.text_names.ensures c.check.ensures

@@ -1,0 +1,252 @@
+//! Proofs that are checked, by runs over shelves and sinks in memory. The formulas and the answers
+//! are worked by hand.
+use crate::run::run;
+use crate::status::Status;
+use crate::words::Words;
+use knox_edge::{MemShelf, MemSink};
+use std::alloc::{AllocError, Global};
+use std::test::Fail;
+
+/// The four clauses over two variables.
+const FOUR: &[u8] = b"p cnf 2 4\n1 2 0\n-1 2 0\n1 -2 0\n-1 -2 0\n";
+
+/// A proof that refutes them.
+const REFUTED: &[u8] = b"5 2 0 1 2 0\n6 0 5 3 4 0\n";
+
+/// Three pigeons, two holes: variable 2(i-1)+j says that pigeon i sits in hole j.
+const PIGEONS: &[u8] = b"\
+p cnf 6 9\n\
+1 2 0\n3 4 0\n5 6 0\n\
+-1 -3 0\n-1 -5 0\n-3 -5 0\n\
+-2 -4 0\n-2 -6 0\n-4 -6 0\n\
+";
+
+/// A refutation of them: where pigeon 1 sits in hole 1, the others can't both sit in hole 2.
+const NO_PIGEONS: &[u8] = b"\
+10 -1 0 4 5 2 3 9 0\n\
+11 2 0 10 1 0\n\
+12 -4 0 11 7 0\n\
+13 3 0 12 2 0\n\
+14 0 11 8 3 13 6 0\n\
+";
+
+/// How a run ended, and what it wrote.
+#[derive(Drop)]
+struct Ran {
+    status: Status,
+    out: Vec<u8>,
+    err: Vec<u8>,
+}
+
+/// Checks a proof of a formula.
+fn check(alloc: Global, formula: &[u8], proof: &[u8]) -> Result<Ran, AllocError> {
+    let mut held = Vec::new(alloc);
+    held.push((
+        Vec::from_slice(alloc, b"f")?,
+        Vec::from_slice(alloc, formula)?,
+    ))?;
+    held.push((
+        Vec::from_slice(alloc, b"p")?,
+        Vec::from_slice(alloc, proof)?,
+    ))?;
+    let mut items = Vec::new(alloc);
+    for word in [b"check".as_slice(), b"f".as_slice(), b"p".as_slice()] {
+        items.push(Vec::from_slice(alloc, word)?)?;
+    }
+    let mut shelf = MemShelf::new(alloc, held, Vec::new(alloc));
+    let mut out = MemSink::new(alloc, Vec::new(alloc), 0);
+    let mut err = MemSink::new(alloc, Vec::new(alloc), 0);
+    let status = run(alloc, &Words { items }, &mut shelf, &mut out, &mut err);
+    Ok(Ran {
+        status,
+        out: Vec::from_slice(alloc, out.written())?,
+        err: Vec::from_slice(alloc, err.written())?,
+    })
+}
+
+/// Whether a run wrote this to `out`, and nothing to `err`.
+fn shows(ran: &Ran, status: Status, line: &[u8]) -> bool {
+    ran.status == status && ran.out.as_slice() == line && ran.err.is_empty()
+}
+
+/// Whether a run wrote this to `err`, and nothing to `out`.
+fn tells(ran: &Ran, line: &[u8]) -> bool {
+    ran.status == Status::Text && ran.err.as_slice() == line && ran.out.is_empty()
+}
+
+#[test]
+fn proofs_that_are_verified(rt: HostRuntime) -> Result<(), Fail> {
+    let alloc = rt.alloc();
+    let cases: [(&[u8], &[u8]); 5] = [
+        (FOUR, REFUTED),
+        (FOUR, b"5 2 0 1 2 0\n5 d 1 0\n6 0 5 3 4 0\n"),
+        (b"p cnf 0 1\n0\n", b""),
+        // Lines after the empty clause, and its deletion.
+        (FOUR, b"5 2 0 1 2 0\n6 0 5 3 4 0\n7 1 0 6 0\n0 d 6 0\n"),
+        (PIGEONS, NO_PIGEONS),
+    ];
+    for (formula, proof) in cases {
+        let ran = check(alloc, formula, proof)?;
+        assert!(rt; shows(&ran, Status::Done, b"verified\n"));
+    }
+    Ok(())
+}
+
+#[test]
+fn proofs_that_are_rejected(rt: HostRuntime) -> Result<(), Fail> {
+    let alloc = rt.alloc();
+    let cases: [(&[u8], &[u8]); 11] = [
+        (
+            b"5 2 0 1 7 0\n6 0 5 3 4 0\n",
+            b"rejected line 1 NoSuchClause 7\n",
+        ),
+        (b"5 2 0 1 0\n6 0 5 3 4 0\n", b"rejected line 1 NoConflict\n"),
+        (b"5 1 0 2 0\n6 0 5 3 4 0\n", b"rejected line 1 NotUnit 2\n"),
+        (b"5 2 0 1 2 0\n", b"rejected no empty clause\n"),
+        (
+            b"4 2 0 1 2 0\n6 0 5 3 4 0\n",
+            b"rejected line 1 IdNotNew 4\n",
+        ),
+        (b"5 2 0 -1 2 0\n6 0 5 3 4 0\n", b"rejected line 1 Rat 5\n"),
+        (
+            b"5 2 0 1 2 0\n5 d 9 0\n6 0 5 3 4 0\n",
+            b"rejected line 2 NoSuchClause 9\n",
+        ),
+        (
+            b"5 2 0 1 9223372036854775807 0\n",
+            b"rejected line 1 NoSuchClause 9223372036854775807\n",
+        ),
+        // The number is that of the text's line, and the first line that is refused is named.
+        (
+            b"c\n\n5 2 0 1 2 0\n6 0 5 3 0\n7 0 9 0\n",
+            b"rejected line 4 NoConflict\n",
+        ),
+        // A line after the empty clause is still to be accepted.
+        (
+            b"5 2 0 1 2 0\n6 0 5 3 4 0\n6 1 0 6 0\n",
+            b"rejected line 3 IdNotNew 6\n",
+        ),
+        (b"", b"rejected no empty clause\n"),
+    ];
+    for (proof, line) in cases {
+        let ran = check(alloc, FOUR, proof)?;
+        assert!(rt; shows(&ran, Status::No, line));
+    }
+    // The hints leave out that pigeons 2 and 3 don't share hole 2.
+    let ran = check(alloc, PIGEONS, b"10 -1 0 4 5 2 3 0\n")?;
+    assert!(rt; shows(&ran, Status::No, b"rejected line 1 NoConflict\n"));
+    Ok(())
+}
+
+#[test]
+fn texts_with_a_fault(rt: HostRuntime) -> Result<(), Fail> {
+    let alloc = rt.alloc();
+    let cases: [(&[u8], &[u8], &[u8]); 7] = [
+        (b"p cnf 2 1\n1 0\n2 0\n", REFUTED, b"text F 3:1 Count\n"),
+        (b"p cnf 1 1\n2 0\n", REFUTED, b"text F 2:1 Variable\n"),
+        (FOUR, b"5 2 0 1 2", b"text P 1:10 Shape\n"),
+        // The formula's fault comes before the proof's.
+        (b"p dnf 1 1\n", b"5 2 0 1 2", b"text F 1:3 Header\n"),
+        (b"", b"", b"text F 1:1 Header\n"),
+        // A fault behind a line that would be refused.
+        (FOUR, b"5 2 0 1 7 0\n6 0 5 x 4 0\n", b"text P 2:7 Shape\n"),
+        // A fault behind the empty clause.
+        (
+            FOUR,
+            b"5 2 0 1 2 0\n6 0 5 3 4 0\n7 1 0 -\n",
+            b"text P 3:7 Shape\n",
+        ),
+    ];
+    for (formula, proof, line) in cases {
+        let ran = check(alloc, formula, proof)?;
+        assert!(rt; tells(&ran, line));
+    }
+    Ok(())
+}
+
+#[test]
+fn prefixes_of_a_proof(rt: HostRuntime) -> Result<(), Fail> {
+    let alloc = rt.alloc();
+    let open: &[u8] = b"rejected no empty clause\n";
+    let done: &[u8] = b"verified\n";
+    // A line that ends too soon has its fault behind its last byte.
+    let cases: [&[u8]; 25] = [
+        open,
+        b"text P 1:2 Shape\n",
+        b"text P 1:3 Shape\n",
+        b"text P 1:4 Shape\n",
+        b"text P 1:5 Shape\n",
+        b"text P 1:6 Shape\n",
+        b"text P 1:7 Shape\n",
+        b"text P 1:8 Shape\n",
+        b"text P 1:9 Shape\n",
+        b"text P 1:10 Shape\n",
+        b"text P 1:11 Shape\n",
+        open,
+        open,
+        b"text P 2:2 Shape\n",
+        b"text P 2:3 Shape\n",
+        b"text P 2:4 Shape\n",
+        b"text P 2:5 Shape\n",
+        b"text P 2:6 Shape\n",
+        b"text P 2:7 Shape\n",
+        b"text P 2:8 Shape\n",
+        b"text P 2:9 Shape\n",
+        b"text P 2:10 Shape\n",
+        b"text P 2:11 Shape\n",
+        done,
+        done,
+    ];
+    for (end, line) in cases.iter().enumerate() {
+        assert!(rt; end <= REFUTED.len());
+        let ran = check(alloc, FOUR, &REFUTED[..end])?;
+        if *line == open {
+            assert!(rt; shows(&ran, Status::No, line), "{end}");
+        } else if *line == done {
+            assert!(rt; shows(&ran, Status::Done, line), "{end}");
+        } else {
+            assert!(rt; tells(&ran, line), "{end}");
+        }
+    }
+    Ok(())
+}
+
+#[test]
+fn prefixes_of_a_formula(rt: HostRuntime) -> Result<(), Fail> {
+    let alloc = rt.alloc();
+    let formula: &[u8] = b"p cnf 1 2\n1 0\n-1 0\n";
+    let done: &[u8] = b"verified\n";
+    // Behind a line feed stands the next line's first column.
+    let cases: [&[u8]; 20] = [
+        b"text F 1:1 Header\n",
+        b"text F 1:2 Header\n",
+        b"text F 1:3 Header\n",
+        b"text F 1:3 Header\n",
+        b"text F 1:3 Header\n",
+        b"text F 1:6 Header\n",
+        b"text F 1:7 Header\n",
+        b"text F 1:8 Header\n",
+        b"text F 1:9 Header\n",
+        b"text F 1:10 Count\n",
+        b"text F 2:1 Count\n",
+        b"text F 2:2 Count\n",
+        b"text F 2:3 Count\n",
+        b"text F 2:4 Count\n",
+        b"text F 3:1 Count\n",
+        b"text F 3:1 Shape\n",
+        b"text F 3:3 Count\n",
+        b"text F 3:4 Count\n",
+        done,
+        done,
+    ];
+    for (end, line) in cases.iter().enumerate() {
+        assert!(rt; end <= formula.len());
+        let ran = check(alloc, &formula[..end], b"3 0 1 2 0\n")?;
+        if *line == done {
+            assert!(rt; shows(&ran, Status::Done, line), "{end}");
+        } else {
+            assert!(rt; tells(&ran, line), "{end}");
+        }
+    }
+    Ok(())
+}
