@@ -1,13 +1,14 @@
 -- The last five texts of a list, or the last two, one by one.
-use Rattle.std.proofs.Common.{◌≡◌, ◌∙◌, ◌<◌, ◌≤◌, ◌+◌, ℕ, zero, suc, List, [], ◌∷◌, length, drop, ap, sym, Option, Some, zero-add, arith, subst}
+use Rattle.std.proofs.Common.{◌≡◌, ◌∙◌, ◌<◌, ◌≤◌, ◌+◌, ℕ, zero, suc, List, [], ◌∷◌, length, drop, ap, sym, Option, Some, zero-add, arith, subst, nat_lt, false, refl, None, Err, if◌then◌else◌}
 use Rattle.std.specs.List.{slice_get}
 use Rattle.std.specs.Option.{option_map, unwrap_or}
 use Rattle.std.proofs.lemmas.Option.{slice_get_past}
 use Rattle.knox_edge.specs.Texts.{Bytes, Named, limit}
 use Rattle.knox_verify.specs.declared.verdict.Letter.{Letter}
-use Rattle.knox_verify.specs.declared.verdict.Letter.TheVariants.{C, S, D, E, H}
 use Rattle.knox.specs.Reading.{Within, texts_of}
-use Rattle.knox_verify.specs.Verdicts.{lettered}
+use Rattle.knox_verify.specs.declared.verdict.TextWhy.{TextWhy}
+use Rattle.knox_verify.specs.declared.verdict.VerifyFault.TheVariants.{Text}
+use Rattle.knox_verify.specs.Verdicts.{first_long, RefusesLong}
 
 pub slice_get-drop : (xs : List Named) (n k : ℕ) → slice_get xs (n + k) ≡ slice_get (drop n xs) k
 slice_get-drop xs zero k = ap (slice_get xs) (zero-add k)
@@ -64,12 +65,12 @@ pub two-within : (ts : List Bytes) (f p : Bytes) → Within ts → ts ≡ f ∷ 
 two-within ts f p within are = let w = subst Within are within in (w.0, w.1.0)
 
 -- none of five texts within the limit is over it
-pub not_long : (ts : List Bytes) (c s d e h : Bytes) (letter : Letter) → Within ts → ts ≡ c ∷ s ∷ d ∷ e ∷ h ∷ [] → limit < length (lettered letter c s d e h) → ⊥
-not_long ts c s d e h letter within are long = short letter (subst Within are within) long
-  where
-    short : (l : Letter) → Within (c ∷ s ∷ d ∷ e ∷ h ∷ []) → limit < length (lettered l c s d e h) → ⊥
-    short C w g = omega (arith, w.0, g)
-    short S w g = omega (arith, w.1.0, g)
-    short D w g = omega (arith, w.1.1.0, g)
-    short E w g = omega (arith, w.1.1.1.0, g)
-    short H w g = omega (arith, w.1.1.1.1.0, g)
+short : (t : Bytes) → length t ≤ limit → nat_lt limit (length t) ≡ false
+short t le = grind arith
+
+none-long : (c s d e h : Bytes) → Within (c ∷ s ∷ d ∷ e ∷ h ∷ []) → first_long c s d e h ≡ None
+none-long c s d e h w = rw (short c w.0, short s w.1.0, short d w.1.1.0, short e w.1.1.1.0, short h w.1.1.1.1.0) refl
+
+pub not_long : (ts : List Bytes) (c s d e h : Bytes) (letter : Letter) (why : TextWhy) → Within ts → ts ≡ c ∷ s ∷ d ∷ e ∷ h ∷ [] → RefusesLong (first_long c s d e h) (Err (Text letter why)) → ⊥
+not_long ts c s d e h letter why within are long =
+    subst (λ o. RefusesLong o (Err (Text letter why))) (none-long c s d e h (subst Within are within)) long

@@ -21,7 +21,7 @@ unfolding design_of
 of-device p agree = agree
 
 pub judged-parts : (v : Verdict) (p : Parts) → Law → IsWireDesign (design p) → IsScript (design p) (hints p) → StartsRefined (design p) (hints p) → Decided v p → JudgesParts v p
-judged-parts Yes p law lawful script starts closed =
-    record { closed = closed; starts = starts; agree = of-device p (law (design p) (hints p) lawful script closed starts) }
+judged-parts Yes p law lawful script starts decided =
+    record { closed = decided.0; narrow = decided.1; starts = starts; agree = of-device p (law (design p) (hints p) lawful script decided.0 starts) }
 judged-parts (Undecided hint choices) p law lawful script starts decided = decided
 judged-parts (TooWide hint bits) p law lawful script starts decided = decided

@@ -15,7 +15,7 @@ use Rattle.script_core.specs.declared.parts.Choices.{Choices}
 use Rattle.script_core.specs.declared.decide.Checked.{Checked}
 use Rattle.script_core.specs.declared.decide.Checked.TheVariants as checked
 use Rattle.script_core.specs.Decisions.{Checks}
-use Rattle.knox_verify.specs.Judgements.{Parts, design, hints, Undecides, IsTooWide}
+use Rattle.knox_verify.specs.Judgements.{Parts, design, hints, NarrowBefore, Narrow, Undecides, IsTooWide}
 
 -- where a segment stands on a list
 record Stands (g : Segment) (gs : List Segment) : Type 0 where
@@ -61,9 +61,13 @@ cut (g ∷ gs) (suc n) below =
         let e = r.earlier x among in
         (suc e.0, (let b = e.1 in omega arith), e.2)
 
+-- no choices falsify a hint of it, and it takes at most 20 bits
+abbrev pub Holds : Segment → Type 0
+Holds x = Safe x.course × (counted x.choice_bits ≤ 20)
+
 -- the segments below a number hold
 abbrev pub HoldBelow : List Segment → ℕ → Type 0
-HoldBelow gs n = (i : ℕ) (x : Segment) → i < n → slice_get gs i ≡ Some x → Safe x.course
+HoldBelow gs n = (i : ℕ) (x : Segment) → i < n → slice_get gs i ≡ Some x → Holds x
 
 pub none-below : (gs : List Segment) → HoldBelow gs 0
 none-below gs i x below there = absurd (omega arith)
@@ -71,33 +75,47 @@ none-below gs i x below there = absurd (omega arith)
 some-same : (x y : Segment) → Some x ≡ Some y → y ≡ x
 some-same x y e = cc
 
-pub one-more : (gs : List Segment) (n : ℕ) → HoldBelow gs n → (g : Segment) → slice_get gs n ≡ Some g → Safe g.course → HoldBelow gs (n + 1)
-one-more gs n held g at safe i x below there = elim (eq-or-lt_of_le {n = i} {m = n} (omega arith)) [
-  | inl same ↦ subst (λ (y : Segment). Safe y.course) (some-same x g (sym there ∙ (ap (λ k. slice_get gs k) same ∙ at))) safe
+pub one-more : (gs : List Segment) (n : ℕ) → HoldBelow gs n → (g : Segment) → slice_get gs n ≡ Some g → Holds g → HoldBelow gs (n + 1)
+one-more gs n held g at holds i x below there = elim (eq-or-lt_of_le {n = i} {m = n} (omega arith)) [
+  | inl same ↦ subst Holds (some-same x g (sym there ∙ (ap (λ k. slice_get gs k) same ∙ at))) holds
   | inr less ↦ held i x less there
 ]
 
 -- where all hold, the script is closed
 pub all-hold : {P : Type 0} (d : Design P) (s : Script P) → HoldBelow (segments d s) (length (segments d s)) → Closed d s
-all-hold d s held = safe-closed d s (λ g among. let r = stands g (segments d s) among in held r.number g r.below r.there)
+all-hold d s held = safe-closed d s (λ g among. let r = stands g (segments d s) among in (held r.number g r.below r.there).0)
+
+-- and no segment takes too many bits
+all-narrow : (p : Parts) → HoldBelow (segments (design p) (hints p)) (length (segments (design p) (hints p))) → Narrow p
+all-narrow p held g among = let r = stands g (segments (design p) (hints p)) among in (held r.number g r.below r.there).1
 
 below-cut : {P : Type 0} (d : Design P) (s : Script P) (n : ℕ) (r : Cut (segments d s) n) → HoldBelow (segments d s) n → ClosedBelow d s r.segment.hint
-below-cut d s n r held = closed-below d s r.segment r.before r.after r.whole (λ x among. let e = r.earlier x among in held e.0 x e.1 e.2)
+below-cut d s n r held = closed-below d s r.segment r.before r.after r.whole (λ x among. let e = r.earlier x among in (held e.0 x e.1 e.2).0)
+
+narrow-before : (p : Parts) (n : ℕ) (r : Cut (segments (design p) (hints p)) n) → HoldBelow (segments (design p) (hints p)) n → NarrowBefore p r.segment
+narrow-before p n r held = record {
+  before = r.before;
+  after = r.after;
+  whole = r.whole;
+  narrow = λ x among. let e = r.earlier x among in (held e.0 x e.1 e.2).1;
+}
 
 -- one more holds
-pub held-more : (gs : List Segment) (n : ℕ) → n < length gs → HoldBelow gs n → Safe (course_at gs n) → HoldBelow gs (n + 1)
-held-more gs n below held safe =
+pub held-more : (gs : List Segment) (n : ℕ) → n < length gs → HoldBelow gs n → Safe (course_at gs n) → counted (bits_at gs n) ≤ 20 → HoldBelow gs (n + 1)
+held-more gs n below held safe fits =
     let r = cut gs n below in
-    one-more gs n held r.segment r.there (subst (λ o. Safe (course_of o)) r.there safe)
+    one-more gs n held r.segment r.there (subst (λ o. Safe (course_of o)) r.there safe, subst (λ o. counted (bits_of o) ≤ 20) r.there fits)
 
 -- the first that is falsified
 pub undecided : (p : Parts) (n h : ℕ) (cs : Words) → n < length (segments (design p) (hints p)) → HoldBelow (segments (design p) (hints p)) n →
-    run (course_at (segments (design p) (hints p)) n) cs ≡ Failed h → Undecides p h cs
-undecided p n h cs there held fails =
+    run (course_at (segments (design p) (hints p)) n) cs ≡ Failed h → counted (bits_at (segments (design p) (hints p)) n) ≤ 20 → Undecides p h cs
+undecided p n h cs there held fails fits =
     let r = cut (segments (design p) (hints p)) n there in
     record {
       falsified = record { segment = r.segment; listed = r.listed; fails = subst (λ o. run (course_of o) cs ≡ Failed h) r.there fails };
+      fits = subst (λ o. counted (bits_of o) ≤ 20) r.there fits;
       below = below-cut (design p) (hints p) n r held;
+      narrow = narrow-before p n r held;
     }
 
 -- the first that is too wide
@@ -112,14 +130,16 @@ too-wide p n h bits there held named counts wide =
       counts = subst (λ o. bits ≡ counted (bits_of o)) r.there counts;
       wide = wide;
       below = below-cut (design p) (hints p) n r held;
+      narrow = narrow-before p n r held;
     }
 
 -- the same from what checking a segment says
-pub falsified-undecided : (p : Parts) (n bits : ℕ) (x : Checked) (h : HintNo) (cs : Choices) → n < length (segments (design p) (hints p)) → HoldBelow (segments (design p) (hints p)) n →
-    x ≡ checked.Falsified h cs → Checks (course_at (segments (design p) (hints p)) n) (hint_at (segments (design p) (hints p)) n) bits x → Undecides p h.0 cs.words
-falsified-undecided p n bits x h cs there held is says =
-    undecided p n h.0 cs.words there held
-    (subst (λ y. Checks (course_at (segments (design p) (hints p)) n) (hint_at (segments (design p) (hints p)) n) bits y) is says).0
+pub falsified-undecided : (p : Parts) (n : ℕ) (x : Checked) (h : HintNo) (cs : Choices) → n < length (segments (design p) (hints p)) → HoldBelow (segments (design p) (hints p)) n →
+    x ≡ checked.Falsified h cs →
+    Checks (course_at (segments (design p) (hints p)) n) (hint_at (segments (design p) (hints p)) n) (counted (bits_at (segments (design p) (hints p)) n)) x → Undecides p h.0 cs.words
+falsified-undecided p n x h cs there held is says =
+    let known = subst (λ y. Checks (course_at (segments (design p) (hints p)) n) (hint_at (segments (design p) (hints p)) n) (counted (bits_at (segments (design p) (hints p)) n)) y) is says in
+    undecided p n h.0 cs.words there held known.0 known.1
 
 pub wide-named : (p : Parts) (n : ℕ) (x : Checked) (h : HintNo) (b : ℕ) → n < length (segments (design p) (hints p)) → HoldBelow (segments (design p) (hints p)) n →
     x ≡ checked.TooWide h b →
@@ -128,12 +148,15 @@ wide-named p n x h b there held is says =
     let known = subst (λ y. Checks (course_at (segments (design p) (hints p)) n) (hint_at (segments (design p) (hints p)) n) (counted (bits_at (segments (design p) (hints p)) n)) y) is says in
     too-wide p n h.0 b there held known.0 known.1.0 (subst (λ (k : ℕ). 20 < k) (sym known.1.0) known.1.1)
 
-pub holds-held : (p : Parts) (n bits : ℕ) (x : Checked) → n < length (segments (design p) (hints p)) → HoldBelow (segments (design p) (hints p)) n →
-    x ≡ checked.Holds → Checks (course_at (segments (design p) (hints p)) n) (hint_at (segments (design p) (hints p)) n) bits x → HoldBelow (segments (design p) (hints p)) (n + 1)
-holds-held p n bits x there held is says =
-    held-more (segments (design p) (hints p)) n there held
-    (subst (λ y. Checks (course_at (segments (design p) (hints p)) n) (hint_at (segments (design p) (hints p)) n) bits y) is says).0
+pub holds-held : (p : Parts) (n : ℕ) (x : Checked) → n < length (segments (design p) (hints p)) → HoldBelow (segments (design p) (hints p)) n →
+    x ≡ checked.Holds →
+    Checks (course_at (segments (design p) (hints p)) n) (hint_at (segments (design p) (hints p)) n) (counted (bits_at (segments (design p) (hints p)) n)) x → HoldBelow (segments (design p) (hints p)) (n + 1)
+holds-held p n x there held is says =
+    let known = subst (λ y. Checks (course_at (segments (design p) (hints p)) n) (hint_at (segments (design p) (hints p)) n) (counted (bits_at (segments (design p) (hints p)) n)) y) is says in
+    held-more (segments (design p) (hints p)) n there held known.0 known.1
 
 -- segments up to the last
-pub all-closed : (p : Parts) (n : ℕ) → length (segments (design p) (hints p)) ≤ n → HoldBelow (segments (design p) (hints p)) n → Closed (design p) (hints p)
-all-closed p n all held = all-hold (design p) (hints p) (λ i x below there. held i x (omega (arith, below, all)) there)
+pub all-closed : (p : Parts) (n : ℕ) → length (segments (design p) (hints p)) ≤ n → HoldBelow (segments (design p) (hints p)) n → Closed (design p) (hints p) × Narrow p
+all-closed p n all held =
+    let held-all : HoldBelow (segments (design p) (hints p)) (length (segments (design p) (hints p))) = λ i x below there. held i x (omega (arith, below, all)) there in
+    (all-hold (design p) (hints p) held-all, all-narrow p held-all)

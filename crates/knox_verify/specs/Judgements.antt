@@ -1,4 +1,4 @@
-use Rattle.std.specs.Prelude.{◌≡◌, ℕ, ◌<◌, List}
+use Rattle.std.specs.Prelude.{◌≡◌, ℕ, ◌<◌, List, ◌≤◌, ◌∷◌, ◌++◌}
 use Rattle.knox_words.specs.Lists.{Words}
 use Rattle.knox_theory.specs.Device.{Device}
 use Rattle.knox_theory.specs.Agreement.{AgreeOnWires}
@@ -38,19 +38,33 @@ design p = design_of p.circuit p.spec p.driver p.emulator
 abbrev pub hints : Parts → Script (Unit {0})
 hints p = script_of p.circuit p.spec p.driver p.script
 
--- No choices falsify a hint of the script, and `refine` holds as the device leaves the factory; so the worlds agree on every list of events without a
+-- the segments before one, in order of their numbers, of which none takes more than 20 bits
+pub record NarrowBefore (p : Parts) (g : Segment) : Type 0 where
+  pub before : List Segment
+  pub after : List Segment
+  pub whole : segments (design p) (hints p) ≡ before ++ g ∷ after
+  pub narrow : (x : Segment) → IsAmong x before → counted x.choice_bits ≤ 20
+
+-- all segments take at most 20 bits
+abbrev pub Narrow : Parts → Type 0
+Narrow p = (x : Segment) → IsAmong x (segments (design p) (hints p)) → counted x.choice_bits ≤ 20
+
+-- No choices falsify a hint of the script, no segment takes too many bits, and `refine` holds as the device leaves the factory; so the worlds agree on every list of events without a
 -- host: on power-cycles at any moment, inputs that are set, outputs that are read and ticks.
 pub record Agrees (p : Parts) : Type 0 where
   pub closed : Closed (design p) (hints p)
+  pub narrow : Narrow p
   pub starts : StartsRefined (design p) (hints p)
   pub agree : AgreeOnWires (device p)
 
--- these choices falsify a hint, and none falsify a hint of a segment before that one
+-- these choices falsify a hint of a segment of at most 20 bits; no segment before it takes more, and no choices falsify a hint of one
 pub record Undecides (p : Parts) (hint : ℕ) (choices : Words) : Type 0 where
   pub falsified : Falsifies (design p) (hints p) hint choices
+  pub fits : counted falsified.segment.choice_bits ≤ 20
   pub below : ClosedBelow (design p) (hints p) falsified.segment.hint
+  pub narrow : NarrowBefore p falsified.segment
 
--- the segment of a section or cut takes more than 20 bits, and no choices falsify a hint of a segment before it
+-- the segment of a section or cut takes more than 20 bits; none before it does, and no choices falsify a hint of one
 pub record IsTooWide (p : Parts) (hint bits : ℕ) : Type 0 where
   pub segment : Segment
   pub listed : IsAmong segment (segments (design p) (hints p))
@@ -58,3 +72,4 @@ pub record IsTooWide (p : Parts) (hint bits : ℕ) : Type 0 where
   pub counts : bits ≡ counted segment.choice_bits
   pub wide : 20 < bits
   pub below : ClosedBelow (design p) (hints p) segment.hint
+  pub narrow : NarrowBefore p segment

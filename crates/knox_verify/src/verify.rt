@@ -1,7 +1,7 @@
 //! The verifier: five texts get their meaning, and then the script is decided segment by segment.
 ghost use Rattle.std.specs.Prelude.{◌≡◌, ◌≤◌, length, IfOk, IfErr};
 ghost use Rattle.knox_verify.specs.declared.verdict.VerifyFault.TheVariants.{Memory};
-ghost use Rattle.knox_verify.specs.Verdicts.{RefusesLongTexts, Judges, Decided, IsNoForm};
+ghost use Rattle.knox_verify.specs.Verdicts.{first_long, RefusesLong, Judges, Decided, IsNoForm};
 ghost use Rattle.knox_verify.specs.Judgements.{Parts, parts_of};
 ghost use Rattle.knox_verify.specs.Meanings.{InForm};
 ghost use Rattle.knox_verify.specs.Faults.{IsNoText};
@@ -72,7 +72,7 @@ pub fn verify_texts(
 ) -> Result<Verdict, VerifyFault>
     ensures judged { IfOk result (λ v. Judges v c.now s.now d.now e.now h.now) }
     ensures not_yet { IfErr result (IsNoForm c.now s.now d.now e.now h.now) }
-    ensures too_long { RefusesLongTexts c.now s.now d.now e.now h.now result }
+    ensures too_long { RefusesLong (first_long c.now s.now d.now e.now h.now) result }
 {
     if c.len() > LIMIT {
         return Err(VerifyFault::Text(Letter::C, TextWhy::TooLong));

@@ -5,7 +5,7 @@ use Rattle.knox.proofs.judging.judge.Goals as goal
 
 pub unreachable-requires : goal.unreachable-requires
 unreachable-requires g c =
-    not_long _ c.text-c.result.now c.text-s.result.now c.text-d.result.now c.text-e.result.now c.text-h.result.now c.in-Err-Text.field-0-0 c.requires.within
+    not_long _ c.text-c.result.now c.text-s.result.now c.text-d.result.now c.text-e.result.now c.text-h.result.now c.in-Err-Text.field-0-0 c.in-Err-Text.field-0-1 c.requires.within
     (five-drop _ c.args.first _ _ _ _ _ c.requires.five c.text-c.ensures c.text-s.ensures c.text-d.ensures c.text-e.ensures c.text-h.ensures)
     (rw c.in-Err-Text.field-0-is at c.in-Err-Text.ensures.too_long)
 

@@ -8,7 +8,7 @@ returns-in-Falsified-clause-decided c =
     let dev = c.args.dev.now in
     let p = parts_of dev c.args.sc.now in
     let count = c.segments-g-end.ensures.all dev.circuit dev.spec dev.driver dev.emulator in
-    falsified-undecided p c.loop-g.g _ c.in_ok-check.field-0 c.in-Falsified.hint c.in-Falsified.choices
+    falsified-undecided p c.loop-g.g c.in_ok-check.field-0 c.in-Falsified.hint c.in-Falsified.choices
     (subst (λ (n : ℕ). c.loop-g.g < n) (sym count) c.loop-g-test.true) c.loop-g.invariant c.in-Falsified.is c.in_ok-check.ensures
 
 pub returns-in-TooWide-clause-decided : goal.returns-in-TooWide-clause-decided
