@@ -1,3 +1,4 @@
 mod Endings
 mod Faults
 mod Parts
+pub mod Shown

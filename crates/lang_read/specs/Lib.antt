@@ -1,3 +1,4 @@
 pub mod Drivers
 pub mod Statements
 pub mod Specifications
+pub mod Emulators

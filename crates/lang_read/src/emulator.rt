@@ -1,12 +1,12 @@
 //! Emulators: `(emulator (field x w n) .. (outputs (x e) ..) (tick (local x w) .. stmt ..))`, where
 //! each part may be left out.
+ghost use Rattle.std.specs.Prelude.{◌≡◌, [], IfOk, map, slice_set};
+ghost use Rattle.expr_read.specs.Views.{Gives, Sees};
+ghost use Rattle.lang_read.specs.Emulators.{output_named, is_entered, new_output, alone, entered, entry_in, outputs_entry, entries, shown, entry_trees, behind_outputs, shown_by, empty_body, cell_field, scope, bounded, tick_body, tick_in, tick_of, both_bodies, together, emulator_in, emulator_parts, emulator_made, emulator_of, emulator_text};
+
+use expr_read::{Group, LangFault, LangWhy, Named, Seen, Fields, behind_head, declare, declare_ports, expr_of_width, fault, field_names, fields_of, find, headed_count, is_headed, locals, no_more, parts_of, place_of, symbol_of};
 use crate::driver::widths_of;
-use crate::statement::{Home, MOST_COST, block};
-use expr_read::{
-    Group, LangFault, LangWhy, Named, Seen, Typed, behind_head, declare, declare_ports,
-    expr_of_width, fault, field_names, fields_of, find, headed_count, is_headed, locals, no_more,
-    parts_of, place_of, symbol_of,
-};
+use crate::statement::{Home, MOST_COST, Steps, block};
 use knox_circuit::{Cell, Circuit, Port};
 use knox_lang::{
     Body, DriverProgram, EmuParts, EmuProgram, Expr, Field, OpHead, Space, SpecProgram,
@@ -17,7 +17,9 @@ use knox_words::word_or;
 use sqlite_items::Items;
 use std::alloc::{AllocError, Global};
 
-fn empty_body(alloc: Global) -> Body {
+fn empty_body(alloc: Global) -> Body
+    ensures { result ≡ empty_body }
+{
     Body {
         locals: Items::new(alloc),
         stmts: Items::new(alloc),
@@ -28,7 +30,9 @@ fn empty_body(alloc: Global) -> Body {
 fn copied_args(
     alloc: Global,
     args: &[(Items<u8>, u8)],
-) -> Result<Items<(Items<u8>, u8)>, AllocError> {
+) -> Result<Items<(Items<u8>, u8)>, AllocError>
+    ensures { IfOk result (λ copy. copy ≡ args.now) }
+{
     let mut copy = Items::new(alloc);
     for arg in args {
         let name = Items::from_slice(alloc, arg.0.as_slice())?;
@@ -38,7 +42,9 @@ fn copied_args(
 }
 
 /// The heads of the specification's operations once more.
-fn copied_ops(alloc: Global, ops: &[OpHead]) -> Result<Items<OpHead>, AllocError> {
+fn copied_ops(alloc: Global, ops: &[OpHead]) -> Result<Items<OpHead>, AllocError>
+    ensures { IfOk result (λ copy. copy ≡ ops.now) }
+{
     let mut copy = Items::new(alloc);
     for op in ops {
         let name = Items::from_slice(alloc, op.name.as_slice())?;
@@ -50,7 +56,9 @@ fn copied_ops(alloc: Global, ops: &[OpHead]) -> Result<Items<OpHead>, AllocError
 }
 
 /// The circuit's cells as fields.
-fn cells_of(alloc: Global, cells: &[Cell]) -> Result<Items<Field>, AllocError> {
+fn cells_of(alloc: Global, cells: &[Cell]) -> Result<Items<Field>, AllocError>
+    ensures { IfOk result (λ fields. fields ≡ map cell_field cells.now) }
+{
     let mut fields = Items::new(alloc);
     for cell in cells {
         fields.push(Field {
@@ -63,168 +71,304 @@ fn cells_of(alloc: Global, cells: &[Cell]) -> Result<Items<Field>, AllocError> {
     Ok(fields)
 }
 
-/// Outputs so far: an expression for each output, and which outputs have an entry.
+/// An entry of `outputs`: the number of the output that it names, and its expression.
 #[derive(Drop)]
-struct Outputs {
-    exprs: Items<Expr>,
-    given: Items<bool>,
+struct Entry {
+    output: u32,
+    expr: Expr,
 }
 
-/// Outputs that are all 0.
-fn zero_outputs(alloc: Global, ports: &[Port]) -> Result<Outputs, AllocError> {
-    let mut exprs = Items::new(alloc);
-    let mut given = Items::new(alloc);
-    for port in ports {
-        exprs.push(Expr::Lit(word_or(port.width, 0)))?;
-        given.push(false)?;
+fn is_entered(output: u32, entries: &[Entry]) -> bool
+    ensures { result ≡ is_entered output entries.now }
+{
+    for entry in entries {
+        if entry.output == output {
+            return true;
+        }
     }
-    Ok(Outputs { exprs, given })
+    false
 }
 
-/// The output that a tree names, which has no entry yet.
-fn output_of(tree: &Tree, outs: &[Named], given: &[bool]) -> Result<Seen, LangFault> {
-    let at = place_of(tree);
-    let seen = find(Group::Output, symbol_of(tree)?, outs).ok_or(fault(at, LangWhy::UnknownName))?;
-    match given.get(seen.slot.number as usize) {
-        Some(false) => Ok(seen),
-        Some(true) => Err(fault(at, LangWhy::Twice)),
-        None => Err(fault(at, LangWhy::UnknownName)),
+/// The output that a tree names.
+fn output_named(tree: &Tree, outs: &[Named]) -> Result<Seen, LangFault>
+    ensures { Gives result (output_named outs.now tree.now) }
+{
+    let name = symbol_of(tree)?;
+    match find(Group::Output, name, outs) {
+        Some(seen) => Ok(seen),
+        None => Err(fault(place_of(tree), LangWhy::UnknownName)),
     }
+}
+
+/// The output that a tree names, which no entry before names.
+fn new_output(tree: &Tree, outs: &[Named], before: &[Entry]) -> Result<Seen, LangFault>
+    ensures { Gives result (new_output outs.now before.now tree.now) }
+{
+    let seen = output_named(tree, outs)?;
+    if is_entered(seen.slot.number, before) {
+        return Err(fault(place_of(tree), LangWhy::Twice));
+    }
+    Ok(seen)
 }
 
 /// An expression that stands in no body.
-fn alone(alloc: Global, tree: &Tree, width: u8, names: &[Named]) -> Result<Typed, LangFault> {
+fn alone(alloc: Global, tree: &Tree, width: u8, names: &[Named]) -> Result<Expr, LangFault>
+    ensures { Gives result (alone tree.now width names.now) }
+{
     let value = expr_of_width(alloc, tree, width, names)?;
     if value.cost > MOST_COST {
         return Err(fault(place_of(tree), LangWhy::Bound));
     }
-    Ok(value)
+    Ok(value.expr)
+}
+
+/// The entry of an output and its expression.
+fn entered(
+    alloc: Global,
+    x: &Tree,
+    e: &Tree,
+    outs: &[Named],
+    names: &[Named],
+    before: &[Entry],
+) -> Result<Entry, LangFault>
+    ensures { Gives result (entered outs.now names.now before.now x.now e.now) }
+{
+    let seen = new_output(x, outs, before)?;
+    let expr = alone(alloc, e, seen.width, names)?;
+    Ok(Entry {
+        output: seen.slot.number,
+        expr,
+    })
+}
+
+/// The parts of an entry whose list is at the place.
+fn entry_in(
+    alloc: Global,
+    at: Place,
+    parts: &[Tree],
+    outs: &[Named],
+    names: &[Named],
+    before: &[Entry],
+) -> Result<Entry, LangFault>
+    ensures { Gives result (entry_in outs.now names.now at before.now parts.now) }
+{
+    match parts {
+        [x, e] => entered(alloc, x, e, outs, names, before),
+        _ => Err(fault(at, LangWhy::Form)),
+    }
 }
 
 /// `(x e)`.
-fn output(
+fn outputs_entry(
     alloc: Global,
     tree: &Tree,
     outs: &[Named],
     names: &[Named],
-    outputs: &mut Outputs,
-) -> Result<(), LangFault> {
-    match parts_of(tree)? {
-        [x, e] => {
-            let seen = output_of(x, outs, outputs.given.as_slice())?;
-            let value = alone(alloc, e, seen.width, names)?;
-            put_output(outputs, seen.slot.number as usize, value.expr);
-            Ok(())
-        }
-        _ => Err(fault(place_of(tree), LangWhy::Form)),
+    before: &[Entry],
+) -> Result<Entry, LangFault>
+    ensures { Gives result (outputs_entry outs.now names.now before.now tree.now) }
+{
+    let parts = parts_of(tree)?;
+    entry_in(alloc, place_of(tree), parts, outs, names, before)
+}
+
+/// The entries of an `outputs` list.
+fn entries(
+    alloc: Global,
+    trees: &[Tree],
+    outs: &[Named],
+    names: &[Named],
+) -> Result<Items<Entry>, LangFault>
+    ensures { Gives result (entries outs.now names.now trees.now) }
+{
+    let mut entries = Items::new(alloc);
+    for tree in trees {
+        let entry = outputs_entry(alloc, tree, outs, names, entries.as_slice())?;
+        entries.push(entry)?;
+    }
+    Ok(entries)
+}
+
+/// Outputs that are all 0.
+fn zero_outputs(alloc: Global, ports: &[Port]) -> Result<Items<Expr>, AllocError>
+    ensures { IfOk result (λ exprs. exprs ≡ shown ports.now []) }
+{
+    let mut exprs = Items::new(alloc);
+    for port in ports {
+        exprs.push(Expr::Lit(word_or(port.width, 0)))?;
+    }
+    Ok(exprs)
+}
+
+/// Gives the output of an entry its expression.
+#[tactic(auto, using(crate::proofs::Shown::past))]
+fn put(exprs: &mut Items<Expr>, entry: Entry)
+    ensures { exprs.new ≡ slice_set exprs.old entry.output entry.expr }
+{
+    let number = entry.output as usize;
+    if number < exprs.len() {
+        exprs.set(number, entry.expr);
     }
 }
 
-fn put_output(outputs: &mut Outputs, number: usize, expr: Expr) {
-    if number < outputs.exprs.len() && number < outputs.given.len() {
-        outputs.exprs.set(number, expr);
-        outputs.given.set(number, true);
+/// The expressions of outputs in line order, by their entries.
+fn shown(
+    alloc: Global,
+    ports: &[Port],
+    entries: Items<Entry>,
+) -> Result<Items<Expr>, AllocError>
+    ensures { IfOk result (λ exprs. exprs ≡ shown ports.now entries) }
+{
+    let mut exprs = zero_outputs(alloc, ports)?;
+    let mut left = entries;
+    while let Some(entry) = left.pop() {
+        put(&mut exprs, entry);
+    }
+    Ok(exprs)
+}
+
+/// The entries of an `outputs` form at the front.
+fn entry_trees(trees: &[Tree]) -> Result<&[Tree], LangFault>
+    ensures { Sees (λ x. x.now) result (entry_trees trees.now) }
+{
+    match trees.split_first() {
+        Some((tree, _)) if is_headed(tree, b"outputs") => behind_head(tree, b"outputs"),
+        _ => Ok(&[]),
     }
 }
 
-/// The expressions of all outputs in line order, by the entries of `outputs`.
-fn outputs_of(
+/// What is left behind an `outputs` form at the front.
+fn behind_outputs(trees: &[Tree]) -> &[Tree]
+    ensures { result.now ≡ behind_outputs trees.now }
+{
+    match trees.split_first() {
+        Some((tree, rest)) if is_headed(tree, b"outputs") => rest,
+        _ => trees,
+    }
+}
+
+/// The expressions of all outputs in line order, by the `outputs` form at the front.
+fn shown_by(
     alloc: Global,
     trees: &[Tree],
     ports: &[Port],
     names: &[Named],
-) -> Result<Items<Expr>, LangFault> {
+) -> Result<Items<Expr>, LangFault>
+    ensures { Gives result (shown_by names.now ports.now trees.now) }
+{
+    let trees = entry_trees(trees)?;
     let mut outs = Items::new(alloc);
     declare_ports(alloc, Space::Output, ports, &mut outs)?;
-    let mut outputs = zero_outputs(alloc, ports)?;
-    for tree in trees {
-        output(alloc, tree, outs.as_slice(), names, &mut outputs)?;
-    }
-    Ok(outputs.exprs)
+    let entries = entries(alloc, trees, outs.as_slice(), names)?;
+    let exprs = shown(alloc, ports, entries)?;
+    Ok(exprs)
 }
 
-/// The body of `tick`, whose list is at the place.
-fn tick_body(
-    alloc: Global,
-    at: Place,
-    trees: &[Tree],
-    names: &mut Items<Named>,
-    ops: &[OpHead],
-) -> Result<Body, LangFault> {
-    let count = headed_count(trees, b"local");
-    let locals = locals(alloc, &trees[..count])?;
-    declare(alloc, Space::Local, locals.as_slice(), names)?;
-    let block = block(alloc, Home::Tick, &trees[count..], names.as_slice(), ops)?;
-    if block.cost > MOST_COST {
+/// The names that `outputs` sees: fields and inputs.
+fn scope(alloc: Global, fields: &[Field], inputs: &[Port]) -> Result<Items<Named>, AllocError>
+    ensures { IfOk result (λ names. names ≡ scope fields.now inputs.now) }
+{
+    let mut names = field_names(alloc, fields)?;
+    declare_ports(alloc, Space::Input, inputs, &mut names)?;
+    Ok(names)
+}
+
+/// The body of a `tick` list at the place, with these locals.
+fn bounded(at: Place, locals: Items<(Items<u8>, u8)>, steps: Steps) -> Result<Body, LangFault>
+    ensures { Gives result (bounded at locals steps) }
+{
+    if steps.cost > MOST_COST {
         return Err(fault(at, LangWhy::Bound));
     }
     Ok(Body {
         locals,
-        stmts: block.stmts,
+        stmts: steps.stmts,
         result: None,
     })
+}
+
+/// The body of a `tick` list at the place, under the names of fields and inputs.
+fn tick_body(
+    alloc: Global,
+    at: Place,
+    trees: &[Tree],
+    names: Items<Named>,
+    ops: &[OpHead],
+) -> Result<Body, LangFault>
+    ensures { Gives result (tick_body names ops.now at trees.now) }
+{
+    let mut names = names;
+    let count = headed_count(trees, b"local");
+    let locals = locals(alloc, &trees[..count])?;
+    declare(alloc, Space::Local, locals.as_slice(), &mut names)?;
+    let steps = block(alloc, Home::Tick, &trees[count..], names.as_slice(), ops)?;
+    bounded(at, locals, steps)
+}
+
+/// `(tick (local x w) .. stmt ..)`.
+fn tick_in(
+    alloc: Global,
+    tree: &Tree,
+    names: Items<Named>,
+    ops: &[OpHead],
+) -> Result<Body, LangFault>
+    ensures { Gives result (tick_in names ops.now tree.now) }
+{
+    let parts = behind_head(tree, b"tick")?;
+    tick_body(alloc, place_of(tree), parts, names, ops)
 }
 
 /// The body of a `tick` form, if there is one.
 fn tick_of(
     alloc: Global,
     trees: &[Tree],
-    names: &mut Items<Named>,
+    names: Items<Named>,
     ops: &[OpHead],
-) -> Result<Body, LangFault> {
-    match trees {
-        [] => Ok(empty_body(alloc)),
-        [tree, rest @ ..] => {
-            let parts = behind_head(tree, b"tick")?;
-            let body = tick_body(alloc, place_of(tree), parts, names, ops)?;
+) -> Result<Body, LangFault>
+    ensures { Gives result (tick_of names ops.now trees.now) }
+{
+    match trees.split_first() {
+        None => Ok(empty_body(alloc)),
+        Some((tree, rest)) => {
+            let body = tick_in(alloc, tree, names, ops)?;
             no_more(rest)?;
             Ok(body)
         }
     }
 }
 
-/// The entries of an `outputs` form at the front, and how many forms that takes.
-fn entries(trees: &[Tree]) -> Result<&[Tree], LangFault> {
-    match trees {
-        [tree, ..] => {
-            if is_headed(tree, b"outputs") {
-                behind_head(tree, b"outputs")
-            } else {
-                Ok(&[])
-            }
-        }
-        [] => Ok(&[]),
-    }
+/// The outputs and the tick of an emulator.
+#[derive(Drop)]
+struct Bodies {
+    outputs: Items<Expr>,
+    tick: Body,
 }
 
-/// What is left behind an `outputs` form at the front.
-fn behind_outputs(trees: &[Tree]) -> &[Tree] {
-    match trees {
-        [tree, rest @ ..] => {
-            if is_headed(tree, b"outputs") {
-                rest
-            } else {
-                trees
-            }
-        }
-        [] => trees,
-    }
-}
-
-fn emu_parts(
+/// What stands behind the fields.
+fn both_bodies(
     alloc: Global,
-    tree: &Tree,
+    trees: &[Tree],
+    names: Items<Named>,
+    outs: &[Port],
+    ops: &[OpHead],
+) -> Result<Bodies, LangFault>
+    ensures { Gives result (both_bodies names outs.now ops.now trees.now) }
+{
+    let outputs = shown_by(alloc, trees, outs, names.as_slice())?;
+    let tick = tick_of(alloc, behind_outputs(trees), names, ops)?;
+    Ok(Bodies { outputs, tick })
+}
+
+/// The parts of an emulator that has no copy of the circuit and does nothing at power-on.
+fn together(
+    alloc: Global,
     c: &Circuit,
     s: &SpecProgram,
-) -> Result<EmuParts, LangFault> {
-    let parts = behind_head(tree, b"emulator")?;
-    let count = headed_count(parts, b"field");
-    let fields = fields_of(alloc, &parts[..count])?;
-    let rest = &parts[count..];
-    let mut names = field_names(alloc, fields.fields.as_slice())?;
-    declare_ports(alloc, Space::Input, c.inputs(), &mut names)?;
-    let outputs = outputs_of(alloc, entries(rest)?, c.outputs_list(), names.as_slice())?;
-    let tick = tick_of(alloc, behind_outputs(rest), &mut names, s.ops())?;
+    fields: Fields,
+    bodies: Bodies,
+) -> Result<EmuParts, AllocError>
+    ensures { IfOk result (λ parts. parts ≡ together c.now s.now fields bodies) }
+{
     Ok(EmuParts {
         fields: fields.fields,
         init: fields.init,
@@ -236,9 +380,52 @@ fn emu_parts(
         funs: Items::new(alloc),
         ops: copied_ops(alloc, s.ops())?,
         power: empty_body(alloc),
-        outputs,
-        tick,
+        outputs: bodies.outputs,
+        tick: bodies.tick,
     })
+}
+
+/// What stands in an emulator's list.
+fn emulator_in(
+    alloc: Global,
+    parts: &[Tree],
+    c: &Circuit,
+    s: &SpecProgram,
+) -> Result<EmuParts, LangFault>
+    ensures { Gives result (emulator_in c.now s.now parts.now) }
+{
+    let count = headed_count(parts, b"field");
+    let fields = fields_of(alloc, &parts[..count])?;
+    let names = scope(alloc, fields.fields.as_slice(), c.inputs())?;
+    let bodies = both_bodies(alloc, &parts[count..], names, c.outputs_list(), s.ops())?;
+    let parts = together(alloc, c, s, fields, bodies)?;
+    Ok(parts)
+}
+
+/// The parts of an emulator's tree, where other trees follow.
+fn emulator_parts(
+    alloc: Global,
+    tree: &Tree,
+    more: &[Tree],
+    c: &Circuit,
+    s: &SpecProgram,
+) -> Result<EmuParts, LangFault>
+    ensures { Gives result (emulator_parts c.now s.now tree.now more.now) }
+{
+    let parts = behind_head(tree, b"emulator")?;
+    let parts = emulator_in(alloc, parts, c, s)?;
+    no_more(more)?;
+    Ok(parts)
+}
+
+/// The emulator of these parts, whose list is at the place.
+fn emulator_made(at: Place, parts: EmuParts) -> Result<EmuProgram, LangFault>
+    ensures { Gives result (emulator_made at parts) }
+{
+    match EmuProgram::new(parts) {
+        Some(emulator) => Ok(emulator),
+        None => Err(fault(at, LangWhy::Width)),
+    }
 }
 
 /// The emulator of a tree, where other trees follow.
@@ -248,13 +435,11 @@ fn emulator_of(
     more: &[Tree],
     c: &Circuit,
     s: &SpecProgram,
-) -> Result<EmuProgram, LangFault> {
-    let parts = emu_parts(alloc, tree, c, s)?;
-    no_more(more)?;
-    match EmuProgram::new(parts) {
-        Some(emulator) => Ok(emulator),
-        None => Err(fault(place_of(tree), LangWhy::Width)),
-    }
+) -> Result<EmuProgram, LangFault>
+    ensures { Gives result (emulator_of c.now s.now tree.now more.now) }
+{
+    let parts = emulator_parts(alloc, tree, more, c, s)?;
+    emulator_made(place_of(tree), parts)
 }
 
 /// The emulator that the trees of a text mean over a circuit, a specification and a driver, where
@@ -268,7 +453,9 @@ pub fn read_emulator(
     c: &Circuit,
     s: &SpecProgram,
     _d: &DriverProgram,
-) -> Result<EmuProgram, LangFault> {
+) -> Result<EmuProgram, LangFault>
+    ensures { Gives result (emulator_text c.now s.now end trees.now) }
+{
     match trees.split_first() {
         Some((tree, more)) => emulator_of(alloc, tree, more, c, s),
         None => Err(fault(end, LangWhy::Missing)),
