@@ -173,19 +173,22 @@ emulator_in c s ts = do
   bs ← both_bodies (scope fs.fields (inputs_of (reverse c.lines))) (outputs_of (reverse c.lines)) s.ops (behind_front (codes "field") ts)
   Ok (together c s fs bs)
 
--- the emulator of a tree, where other trees follow
-abbrev pub emulator_parts : Circuit → SpecParts → Tree → List Tree → Result EmuParts LangFault
-emulator_parts c s t more = do
-  ts ← behind_head (codes "emulator") t
-  p ← emulator_in c s ts
-  done ← no_more more
-  Ok p
-
 abbrev pub emulator_made : Place → EmuParts → Result EmuParts LangFault
 emulator_made at p = if emulator_fits p then Ok p else fails at Width
 
+-- the emulator of a tree
+abbrev pub emulator_at : Circuit → SpecParts → Tree → Result EmuParts LangFault
+emulator_at c s t = do
+  ts ← behind_head (codes "emulator") t
+  p ← emulator_in c s ts
+  emulator_made (place_of t) p
+
+-- the same where other trees follow, of which there must be none
 abbrev pub emulator_of : Circuit → SpecParts → Tree → List Tree → Result EmuParts LangFault
-emulator_of c s t more = emulator_parts c s t more >>= λ p. emulator_made (place_of t) p
+emulator_of c s t more = do
+  p ← emulator_at c s t
+  done ← no_more more
+  Ok p
 
 -- the emulator of the trees of a text that ends at a place
 abbrev pub emulator_text : Circuit → SpecParts → Place → List Tree → Result EmuParts LangFault

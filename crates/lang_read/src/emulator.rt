@@ -2,11 +2,15 @@
 //! each part may be left out.
 ghost use Rattle.std.specs.Prelude.{◌≡◌, [], IfOk, map, slice_set};
 ghost use Rattle.expr_read.specs.Views.{Gives, Sees};
-ghost use Rattle.lang_read.specs.Emulators.{output_named, is_entered, new_output, alone, entered, entry_in, outputs_entry, entries, shown, entry_trees, behind_outputs, shown_by, empty_body, cell_field, scope, bounded, tick_body, tick_in, tick_of, both_bodies, together, emulator_in, emulator_parts, emulator_made, emulator_of, emulator_text};
+ghost use Rattle.lang_read.specs.Emulators.{output_named, is_entered, new_output, alone, entered, entry_in, outputs_entry, entries, shown, entry_trees, behind_outputs, shown_by, empty_body, cell_field, scope, bounded, tick_body, tick_in, tick_of, both_bodies, together, emulator_in, emulator_made, emulator_at, emulator_of, emulator_text};
 
-use expr_read::{Group, LangFault, LangWhy, Named, Seen, Fields, behind_head, declare, declare_ports, expr_of_width, fault, field_names, fields_of, find, headed_count, is_headed, locals, no_more, parts_of, place_of, symbol_of};
 use crate::driver::widths_of;
 use crate::statement::{Home, MOST_COST, Steps, block};
+use expr_read::{
+    Fields, Group, LangFault, LangWhy, Named, Seen, behind_head, declare, declare_ports,
+    expr_of_width, fault, field_names, fields_of, find, headed_count, is_headed, locals, no_more,
+    parts_of, place_of, symbol_of,
+};
 use knox_circuit::{Cell, Circuit, Port};
 use knox_lang::{
     Body, DriverProgram, EmuParts, EmuProgram, Expr, Field, OpHead, Space, SpecProgram,
@@ -212,11 +216,7 @@ fn put(exprs: &mut Items<Expr>, entry: Entry)
 }
 
 /// The expressions of outputs in line order, by their entries.
-fn shown(
-    alloc: Global,
-    ports: &[Port],
-    entries: Items<Entry>,
-) -> Result<Items<Expr>, AllocError>
+fn shown(alloc: Global, ports: &[Port], entries: Items<Entry>) -> Result<Items<Expr>, AllocError>
     ensures { IfOk result (λ exprs. exprs ≡ shown ports.now entries) }
 {
     let mut exprs = zero_outputs(alloc, ports)?;
@@ -402,22 +402,6 @@ fn emulator_in(
     Ok(parts)
 }
 
-/// The parts of an emulator's tree, where other trees follow.
-fn emulator_parts(
-    alloc: Global,
-    tree: &Tree,
-    more: &[Tree],
-    c: &Circuit,
-    s: &SpecProgram,
-) -> Result<EmuParts, LangFault>
-    ensures { Gives result (emulator_parts c.now s.now tree.now more.now) }
-{
-    let parts = behind_head(tree, b"emulator")?;
-    let parts = emulator_in(alloc, parts, c, s)?;
-    no_more(more)?;
-    Ok(parts)
-}
-
 /// The emulator of these parts, whose list is at the place.
 fn emulator_made(at: Place, parts: EmuParts) -> Result<EmuProgram, LangFault>
     ensures { Gives result (emulator_made at parts) }
@@ -426,6 +410,20 @@ fn emulator_made(at: Place, parts: EmuParts) -> Result<EmuProgram, LangFault>
         Some(emulator) => Ok(emulator),
         None => Err(fault(at, LangWhy::Width)),
     }
+}
+
+/// The emulator of a tree.
+fn emulator_at(
+    alloc: Global,
+    tree: &Tree,
+    c: &Circuit,
+    s: &SpecProgram,
+) -> Result<EmuProgram, LangFault>
+    ensures { Gives result (emulator_at c.now s.now tree.now) }
+{
+    let parts = behind_head(tree, b"emulator")?;
+    let parts = emulator_in(alloc, parts, c, s)?;
+    emulator_made(place_of(tree), parts)
 }
 
 /// The emulator of a tree, where other trees follow.
@@ -438,8 +436,9 @@ fn emulator_of(
 ) -> Result<EmuProgram, LangFault>
     ensures { Gives result (emulator_of c.now s.now tree.now more.now) }
 {
-    let parts = emulator_parts(alloc, tree, more, c, s)?;
-    emulator_made(place_of(tree), parts)
+    let emulator = emulator_at(alloc, tree, c, s)?;
+    no_more(more)?;
+    Ok(emulator)
 }
 
 /// The emulator that the trees of a text mean over a circuit, a specification and a driver, where
