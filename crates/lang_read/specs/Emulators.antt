@@ -24,7 +24,6 @@ use Rattle.expr_read.specs.declared.names.Group.TheVariants.{Output}
 use Rattle.expr_read.specs.declared.names.Named.{Named}
 use Rattle.expr_read.specs.declared.names.Seen.{Seen}
 use Rattle.expr_read.specs.declared.fields.Fields.{Fields}
-use Rattle.expr_read.specs.declared.expression.Typed.{Typed}
 use Rattle.expr_read.specs.Views.{◌>>=◌, fails, place_of, symbol_of, parts_of, is_headed, headed_count, behind_head, no_more, each}
 use Rattle.expr_read.specs.Names.{found, and_last, locals, numbered, field_names, port_names}
 use Rattle.expr_read.specs.Fields.{fields_of}

@@ -1,4 +1,4 @@
-use Rattle.std.proofs.Common.{◌≡◌, sym, ap, ◌∙◌}
+use Rattle.std.proofs.Common.{sym, ap, ◌∙◌}
 use Rattle.lang_read.proofs.Shown.{put_all, put-none, put-last}
 use Rattle.lang_read.proofs.emulator.shown.Goals as goal
 
