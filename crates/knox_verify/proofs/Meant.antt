@@ -14,6 +14,10 @@ use Rattle.knox_lang.specs.declared.parts.SpecParts.{SpecParts}
 use Rattle.knox_lang.specs.declared.parts.DriverParts.{DriverParts}
 use Rattle.knox_lang.specs.declared.parts.EmuParts.{EmuParts}
 use Rattle.btor_read.specs.Grammar.{circuit_of}
+use Rattle.emu_machine.specs.Fits.{fits_device}
+use Rattle.knox_theory.specs.Closed.{StartsRefined}
+use Rattle.script_read.specs.Scripts.{script_text}
+use Rattle.lang_read.specs.Specifications.{spec_text}
 use Rattle.lang_read.specs.Drivers.{driver_text}
 use Rattle.lang_read.specs.Emulators.{emulator_text}
 use Rattle.expr_read.specs.declared.faults.LangWhy.{LangWhy}
@@ -23,7 +27,8 @@ use Rattle.expr_read.specs.Views.{Fails}
 use Rattle.knox_verify.specs.declared.verdict.VerifyFault.{VerifyFault}
 use Rattle.knox_verify.specs.declared.verdict.VerifyFault.TheVariants.{Memory}
 use Rattle.knox_verify.specs.Faults.{of_circuit, of_program}
-use Rattle.knox_verify.specs.Meanings.{Reads, MeansDevice}
+use Rattle.knox_verify.specs.Judgements.{Parts, design, hints}
+use Rattle.knox_verify.specs.Meanings.{Reads, MeansDevice, InForm}
 
 -- a text means at most one list of trees
 abbrev pub OneMeaning : Type 0
@@ -66,10 +71,55 @@ pub refused-circuit : (why : Why) (o : Option Circuit) (x : Circuit) → (why �
 refused-circuit circuit.Memory o x none some = refl
 refused-circuit _ o x none some = some-none x o (none (λ e. absurd cc)) some
 
-not-both : (b : Bool) → b ≡ true → b ≡ false → ⊥
+pub not-both : (b : Bool) → b ≡ true → b ≡ false → ⊥
 not-both b e f = cc
 
 -- nothing is left behind the last byte
 pub at-end : (at : Place) (rest : List ℕ) (next : Option ℕ) → next ≡ slice_get rest 0 → is_some next ≡ false → behind at rest ≡ at
 at-end at [] next e none = refl
 at-end at (b ∷ bytes) next e none = absurd (not-both (is_some next) (ap is_some e) none)
+
+same-circuit : (o : Option Circuit) (x y : Circuit) → o ≡ Some x → o ≡ Some y → x ≡ y
+same-circuit o x y e f = cc
+
+-- what four texts mean is one device: the driver over the circuit that was read
+pub driver-read : (c s d e : Bytes) (circuit : Circuit) (spec : SpecParts) (driver : DriverParts) (emulator : EmuParts) (x : Circuit) → MeansDevice c s d e circuit spec driver emulator → circuit_of c ≡ Some x → Reads (driver_text x) d driver
+driver-read c s d e circuit spec driver emulator x m is =
+    subst (λ k. Reads (driver_text k) d driver) (same-circuit (circuit_of c) circuit x m.circuit_read is) m.driver_read
+
+-- the emulator over the circuit and the specification that were read
+pub emulator-read : (c s d e : Bytes) (circuit : Circuit) (spec : SpecParts) (driver : DriverParts) (emulator : EmuParts) (x : Circuit) (y : SpecParts) → OneMeaning →
+    MeansDevice c s d e circuit spec driver emulator → circuit_of c ≡ Some x → Reads spec_text s y → Reads (emulator_text x y) e emulator
+emulator-read c s d e circuit spec driver emulator x y one m is read =
+    subst (λ k. Reads (emulator_text x k) e emulator) (reads-one spec_text s spec y one m.spec_read read)
+    (subst (λ k. Reads (emulator_text k spec) e emulator) (same-circuit (circuit_of c) circuit x m.circuit_read is) m.emulator_read)
+
+-- and they fit each other
+pub read-fit : (c s d e : Bytes) (circuit : Circuit) (spec : SpecParts) (driver : DriverParts) (emulator : EmuParts) (x : Circuit) (y : SpecParts) (z : DriverParts) (w : EmuParts) → OneMeaning →
+    MeansDevice c s d e circuit spec driver emulator → circuit_of c ≡ Some x → Reads spec_text s y → Reads (driver_text x) d z → Reads (emulator_text x y) e w → fits_device x y z w ≡ true
+read-fit c s d e circuit spec driver emulator x y z w one m is of_spec of_driver of_emulator =
+    let circuits = same-circuit (circuit_of c) circuit x m.circuit_read is in
+    let specs = reads-one spec_text s spec y one m.spec_read of_spec in
+    let drivers = reads-one (driver_text x) d driver z one (driver-read c s d e circuit spec driver emulator x m is) of_driver in
+    let emulators = reads-one (emulator_text x y) e emulator w one (emulator-read c s d e circuit spec driver emulator x y one m is of_spec) of_emulator in
+    subst (λ k. fits_device x y z k ≡ true) emulators
+    (subst (λ k. fits_device x y k emulator ≡ true) drivers
+    (subst (λ k. fits_device x k driver emulator ≡ true) specs
+    (subst (λ k. fits_device k spec driver emulator ≡ true) circuits m.fit)))
+
+-- the script for the device that was read
+pub script-read : (c s d e h : Bytes) (p : Parts) (x : Circuit) (y : SpecParts) (z : DriverParts) (w : EmuParts) → OneMeaning → InForm c s d e h p → MeansDevice c s d e x y z w →
+    Reads (script_text x y z w) h p.script × StartsRefined (design (record { circuit = x; spec = y; driver = z; emulator = w; script = p.script })) (hints (record { circuit = x; spec = y; driver = z; emulator = w; script = p.script }))
+script-read c s d e h p x y z w one f n =
+    let m = f.meant.device in
+    let circuits = same-circuit (circuit_of c) p.circuit x m.circuit_read n.circuit_read in
+    let specs = reads-one spec_text s p.spec y one m.spec_read n.spec_read in
+    let drivers = reads-one (driver_text x) d p.driver z one (driver-read c s d e p.circuit p.spec p.driver p.emulator x m n.circuit_read) n.driver_read in
+    let emulators = reads-one (emulator_text x y) e p.emulator w one (emulator-read c s d e p.circuit p.spec p.driver p.emulator x y one m n.circuit_read n.spec_read) n.emulator_read in
+    of-same x y z w circuits specs drivers emulators
+  where
+    Said : Circuit → SpecParts → DriverParts → EmuParts → Type 0
+    Said x y z w = Reads (script_text x y z w) h p.script × StartsRefined (design (record { circuit = x; spec = y; driver = z; emulator = w; script = p.script })) (hints (record { circuit = x; spec = y; driver = z; emulator = w; script = p.script }))
+    of-same : (x : Circuit) (y : SpecParts) (z : DriverParts) (w : EmuParts) → p.circuit ≡ x → p.spec ≡ y → p.driver ≡ z → p.emulator ≡ w → Said x y z w
+    of-same x y z w circuits specs drivers emulators =
+        subst (λ k. Said x y z k) emulators (subst (λ k. Said x y k p.emulator) drivers (subst (λ k. Said x k p.driver p.emulator) specs (subst (λ k. Said k p.spec p.driver p.emulator) circuits (f.meant.script, f.starts))))
