@@ -62,7 +62,7 @@ Explains ws before after out out' err err' status.TooWide =
 Explains ws before after out out' err err' status.Usage =
     (command_of ws ≡ None) × (after ≡ before) × Whole out out' [] × Whole err err' usage_line
 Explains ws before after out out' err err' status.NotYet =
-    ((IsOther (command_of ws) × (after ≡ before)) ⊎ (IsVerify (command_of ws) × (whole : ReadWhole (names_of ws) before after) × InNoForm (texts_of whole.entries)))
+    ((IsOther (command_of ws) × (after ≡ before)) ⊎ (IsVerify (command_of ws) × ((whole : ReadWhole (names_of ws) before after) × InNoForm (texts_of whole.entries))))
     × Whole out out' [] × Whole err err' not_yet_line
 Explains ws before after out out' err err' status.ReadFault =
     (which : ℕ) × IsBuilt (command_of ws) × ReadUpTo (names_of ws) which Failed before after × Rose before.faults after.faults
