@@ -1,5 +1,5 @@
 -- What the words after a program's name mean: commands, their limits, and the names of their texts.
-use Rattle.std.specs.Prelude.{ℕ, ◌≤◌, List, [], ◌∷◌, Option, Some, None, codes, if◌then◌else◌, nat_le, nat_lt, length, ◌&&◌}
+use Rattle.std.specs.Prelude.{ℕ, ◌≡◌, ◌≤◌, List, [], ◌∷◌, Option, Some, None, codes, if◌then◌else◌, nat_le, nat_lt, length, ◌&&◌}
 use Rattle.std.specs.Option.{option_map, option_and_then}
 use Rattle.std.specs.Str.{bytes_eq}
 use Rattle.std.specs.List.{list_all}
