@@ -20,4 +20,4 @@ returns-in-Overlong g c =
 pub returns-in-Faulty : goal.returns-in-Faulty
 returns-in-Faulty g c =
     rw c.in-Faulty.is (delivers_to_err _ _ c.say_fault.result _ _ _
-    (says_as _ c.say_fault.result _ _ (fault_line c.letter.result.now c.in-Faulty.why) _ (ap (λ l. fault_line l c.in-Faulty.why) c.letter.ensures) c.say_fault.ensures))
+    (says_as _ c.say_fault.result _ _ (fault_line c.letter-in-Faulty.result.now c.in-Faulty.why) _ (ap (λ l. fault_line l c.in-Faulty.why) c.letter-in-Faulty.ensures) c.say_fault.ensures))
