@@ -42,7 +42,7 @@ by_outcome ws b a o o' e e' (Checked Verified) (inr p) u v = (p.0, p.1, u, v)
 by_outcome ws b a o o' e e' (Checked (Rejected number why)) (inr p) u v = inl (number, why, (p.0, p.1, u, v))
 by_outcome ws b a o o' e e' (Checked NoEmptyClause) (inr p) u v = inr (p.0, p.1, u, v)
 by_outcome ws b a o o' e e' (Faulty which why) (inl p) u v = absurd p.1
-by_outcome ws b a o o' e e' (Faulty which why) (inr p) u v = inr (which, why, (p.0, p.1, u, v))
+by_outcome ws b a o o' e e' (Faulty which why) (inr p) u v = inr (which, why, p.0, p.1, u, v)
 by_outcome ws b a o o' e e' OutOfMemory p u v = tt
 
 by_stop : (ws : List Bytes) (b a : Reads) (o o' e e' : Sunk) (s t : Bytes) (r : Status) → StopsBoth s t r o o' e e' → Explains ws b a o o' e e' r

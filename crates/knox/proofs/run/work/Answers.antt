@@ -17,11 +17,11 @@ returns-in-Some-Verify g c =
 
 pub check-requires : goal.check-requires
 check-requires g c =
-    length-two c.args.words.now c.text_names.result.now c.text_names.ensures
+    length-two c.args.words.now c.text_names-in-Some-Check.result.now c.text_names-in-Some-Check.ensures
     (rw c.in-Some-Check.field-0-is at c.in-Some-Check.ensures.texts)
 
 pub returns-in-Some-Check : goal.returns-in-Some-Check
 returns-in-Some-Check g c =
-    Because-checked (bytes_of c.args.words.now) (bytes_of c.text_names.result.now) _ _ c.check.result
+    Because-checked (bytes_of c.args.words.now) (bytes_of c.text_names-in-Some-Check.result.now) _ _ c.check.result
     (subst IsCheck (ap Some (sym c.in-Some-Check.field-0-is) ∙ c.in-Some-Check.ensures.value) tt)
-    c.text_names.ensures c.check.ensures
+    c.text_names-in-Some-Check.ensures c.check.ensures
