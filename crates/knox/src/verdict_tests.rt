@@ -162,6 +162,51 @@ const TWO_STATES: &[u8] = b"\
 10 output 4 q\n\
 ";
 
+/// A secret of two bits, of which a tick writes the low one at once, and the high one a tick later.
+const TORN: &[u8] = b"\
+1 sort bitvec 1\n\
+2 zero 1\n\
+3 input 1 set\n\
+4 input 1 h\n\
+5 input 1 l\n\
+6 state 1 high\n\
+7 init 1 6 2\n\
+8 state 1 low\n\
+9 init 1 8 2\n\
+10 state 1 pending\n\
+11 init 1 10 2\n\
+12 state 1 next\n\
+13 init 1 12 2\n\
+14 ite 1 10 12 6\n\
+15 next 1 6 14\n\
+16 ite 1 3 5 8\n\
+17 next 1 8 16\n\
+18 next 1 10 3\n\
+19 ite 1 3 4 12\n\
+20 next 1 12 19\n\
+21 output 2 nothing\n\
+";
+
+/// Its specification, which writes both at once.
+const TORN_SPEC: &[u8] = b"\
+(spec (field high 1 0) (field low 1 0)\n\
+ (op set ((h 1) (l 1)) 1 (assign high h) (assign low l) (result #b1)))\n\
+";
+
+const TORN_EMULATOR: &[u8] = b"\
+(emulator (tick (local q 1) (if (in set) ((query q set (in h) (in l))) ())))\n\
+";
+
+/// Hints whose cut holds again after each tick, while `refine` is broken by one that sets.
+const TORN_HINTS: &[u8] = b"\
+(refine (and (eq (s high) (c high)) (eq (s low) (c low))))\n\
+(wire\n\
+ (cut A (and (eq (s low) (c low))\n\
+  (ite (c pending) (eq (s high) (c next)) (eq (s high) (c high)))))\n\
+ (step 1)\n\
+ (subsume A))\n\
+";
+
 /// Five texts.
 #[derive(Clone, Copy)]
 pub(crate) struct Texts<'a> {
@@ -284,6 +329,18 @@ fn verdicts_and_their_lines(rt: HostRuntime) -> Result<(), Fail> {
             },
             Status::Undecided,
             b"undecided 2\nchoices 1\n".as_slice(),
+        ),
+        // A tick that sets another high bit leaves the secret torn, and the next one makes it whole.
+        (
+            Texts {
+                c: TORN,
+                s: TORN_SPEC,
+                d: b"(driver (persistent high low))",
+                e: TORN_EMULATOR,
+                h: TORN_HINTS,
+            },
+            Status::Undecided,
+            b"undecided 3\nchoices 0 0 0 0 0 0 1 1 0\n".as_slice(),
         ),
     ];
     for (texts, status, out) in cases {
