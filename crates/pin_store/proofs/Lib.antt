@@ -5,3 +5,4 @@ mod Rows
 mod Hinting
 mod Shut
 mod Leaking
+mod Programs

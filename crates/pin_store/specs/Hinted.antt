@@ -1,5 +1,5 @@
 -- Scripts of hints for the PIN store, part by part: that of its text, and others with another condition at the cut; and runs of their segments.
-use Rattle.std.specs.Prelude.{ℕ, List, [], ◌∷◌, slice_get, Option, Some, None}
+use Rattle.std.specs.Prelude.{◌≡◌, ℕ, List, [], ◌∷◌, slice_get, Option, Some, None}
 use Rattle.knox_words.specs.Bits.{bits}
 use Rattle.knox_words.specs.Lists.{Words}
 use Rattle.knox_words.specs.declared.op.Op2.TheVariants.{And}
@@ -13,6 +13,7 @@ use Rattle.knox_circuit.specs.declared.line.Line.{Line}
 use Rattle.knox_lang.specs.declared.expr.Expr.{Expr}
 use Rattle.knox_lang.specs.declared.expr.Expr.TheVariants as expr
 use Rattle.knox_lang.specs.declared.expr.Space.TheVariants as space
+use Rattle.emu_machine.specs.declared.device.Device.{Device as Machine}
 use Rattle.script_core.specs.declared.parts.HintNo.{HintNo}
 use Rattle.script_core.specs.declared.parts.Act.{Act}
 use Rattle.script_core.specs.declared.parts.Act.TheVariants as act
@@ -21,7 +22,7 @@ use Rattle.script_core.specs.declared.parts.Kind.TheVariants.{Wire}
 use Rattle.script_core.specs.declared.parts.ScriptParts.{ScriptParts}
 use Rattle.script_core.specs.Hints.{script_of}
 use Rattle.script_core.specs.Runs.{course_at}
-use Rattle.pin_store.specs.Store.{name, equal, circuit, spec, driver, design}
+use Rattle.pin_store.specs.Store.{name, equal, circuit, spec, driver, emulator, design}
 
 -- ---- conditions
 
@@ -99,3 +100,10 @@ cut_trace d gs cs = events_or (slice_get gs 1)
     events_or : Option Segment → List Event
     events_or None = []
     events_or (Some g) = (trace_of d [] [] g cs).events
+
+-- the device of the program is made of the store's parts
+pub record IsStore (dev : Machine) (width : ℕ) (output : List Line) : Type 0 where
+  pub circuit_is : dev.circuit ≡ circuit width output
+  pub spec_is : dev.spec ≡ spec width
+  pub driver_is : dev.driver ≡ driver width
+  pub emulator_is : dev.emulator ≡ emulator width
