@@ -87,5 +87,5 @@ Ends-by ws given names letters b a o result x x' y y' is named lettered because 
   o,
   subst (λ v. Because v b a o) is because,
   subst (λ ls. Delivers (to_out o) (to_err ls (names_of ws) o) (status_of o) result x x' y y') (lettered ∙ ap (λ v. letters_of (command_of v)) is)
-  (subst (λ ns. Delivers (to_out o) (to_err letters ns o) (status_of o) result x x' y y') (named ∙ ap names_of is) delivers),
+      (subst (λ ns. Delivers (to_out o) (to_err letters ns o) (status_of o) result x x' y y') (named ∙ ap names_of is) delivers),
 )

@@ -110,8 +110,7 @@ fn checks_have_one_end()
     ensures end { (f p : List ℕ) (a b : CheckEnd) → Checks a f p → Checks b f p → a ≡ b }
     ensures no_fault { (f p : List ℕ) (a : CheckEnd) (which : ℕ) (why : ProofFault) → Checks a f p → HasFault which why f p → ⊥ }
     ensures fault { (f p : List ℕ) (which other : ℕ) (why how : ProofFault) → HasFault which why f p → HasFault other how f p → (which ≡ other) × (why ≡ how) }
-{
-}
+{}
 
 /// Checks a proof of a formula, by their bytes.
 pub fn check_texts(alloc: Global, formula: &[u8], proof: &[u8]) -> Result<CheckEnd, Unchecked>

@@ -21,7 +21,7 @@ enum Which {
 type Edit = (Which, &'static [u8], &'static [u8]);
 
 /// The last line of the circuit.
-const LAST: &[u8] = b"21 output 12 ok\n";
+pub(crate) const LAST: &[u8] = b"21 output 12 ok\n";
 
 const CIRCUITS: [&[u8]; 16] = [
     // A width over 8, a sort and constants that are not of the form.
@@ -51,7 +51,11 @@ const OUTSIDE: [Edit; 36] = [
     (Which::S, b"secret 4 0)", b"secret 4 16)"),
     (Which::S, b"secret 4 0)", b"secret 4 0) (field x 9 0)"),
     (Which::S, b"secret 4 0)", b"secret 4 0) (field secret 4 0)"),
-    (Which::S, b"secret 4 0)", b"secret 4 0) (field x (array 1 1) 0)"),
+    (
+        Which::S,
+        b"secret 4 0)",
+        b"secret 4 0) (field x (array 1 1) 0)",
+    ),
     (Which::S, b"(result #b1)", b"(result #b01)"),
     (Which::S, b"(result #b1)", b""),
     (Which::S, b"(assign secret v)", b"(assign v v)"),
@@ -63,24 +67,48 @@ const OUTSIDE: [Edit; 36] = [
     (Which::S, b"(eq g secret)", b"(ulte g secret)"),
     (Which::S, b"secret))))", b"secret)))))"),
     (Which::S, b"secret))))", b"secret)))) (spec)"),
-    (Which::D, b"(persistent secret)", b"(persistent secret secret)"),
+    (
+        Which::D,
+        b"(persistent secret)",
+        b"(persistent secret secret)",
+    ),
     (Which::D, b"(persistent secret)", b"(persistent cmd)"),
-    (Which::D, b"(persistent secret)", b"(persistent secret) (idle)"),
+    (
+        Which::D,
+        b"(persistent secret)",
+        b"(persistent secret) (idle)",
+    ),
     (Which::D, b"(persistent secret)", b"(call set (result #b1))"),
     (Which::E, b"(field ok 1 0)", b"(copy) (field ok 1 0)"),
     (Which::E, b"(outputs (ok ok))", b"(outputs (ok ok) (ok ok))"),
     (Which::E, b"(outputs (ok ok))", b"(outputs (no ok))"),
     (Which::E, b"(outputs (ok ok))", b"(power) (outputs (ok ok))"),
     (Which::E, b"(local q 1)", b"(local q 1) (local q 1)"),
-    (Which::E, b"(query q set (in data))", b"(query q get (in data))"),
+    (
+        Which::E,
+        b"(query q set (in data))",
+        b"(query q get (in data))",
+    ),
     (Which::E, b"(query q set (in data))", b"(query q set)"),
-    (Which::E, b"(query q set (in data))", b"(query q set (in cmd))"),
+    (
+        Which::E,
+        b"(query q set (in data))",
+        b"(query q set (in cmd))",
+    ),
     (Which::E, b"(assign ok r)", b"(assign ok (s secret))"),
     (Which::H, b"(step 1)", b"(step 2)"),
     (Which::H, b"(step 1)", b""),
     (Which::H, b"(subsume A)", b"(subsume B)"),
-    (Which::H, b"(refine (eq (s secret) (c secret)))", b"(refine #b0)"),
-    (Which::H, b"(refine (eq (s secret) (c secret)))", b"(refine (c ok))"),
+    (
+        Which::H,
+        b"(refine (eq (s secret) (c secret)))",
+        b"(refine #b0)",
+    ),
+    (
+        Which::H,
+        b"(refine (eq (s secret) (c secret)))",
+        b"(refine (c ok))",
+    ),
     (Which::H, b"(refine (eq (s secret) (c secret)))", b""),
     (Which::H, b"(wire", b"(idle #b1) (wire"),
     (Which::H, b"(cut A ", b"(label B) (cut A "),
@@ -89,7 +117,11 @@ const OUTSIDE: [Edit; 36] = [
 /// Edits after which the texts say the same.
 const INSIDE: [Edit; 14] = [
     (Which::C, b"1 sort bitvec 1\n", b"1 sort bitvec 1\r\n"),
-    (Which::C, b"21 output 12 ok\n", b"\n\t0099 output 012 ok ; the answer"),
+    (
+        Which::C,
+        b"21 output 12 ok\n",
+        b"\n\t0099 output 012 ok ; the answer",
+    ),
     (Which::C, b"4 zero 1\n", b"; zeros\n4 zero 1 nothing\n"),
     (Which::C, b"6 constd 2 1\n", b"6\tconstd  2\t01\n"),
     (Which::S, b"(spec ", b"; a store\r\n(spec;\n"),
@@ -100,12 +132,21 @@ const INSIDE: [Edit; 14] = [
     (Which::E, b"set (in data)", b"set (in @9)"),
     (Which::E, b"(assign ok r)", b"(assign ok r) ; the last\n"),
     (Which::H, b"(step 1)", b"(step #x01)"),
-    (Which::H, b"(refine (eq (s secret) (c secret)))", b"(refine (eq (s secret) (c @10)))"),
+    (
+        Which::H,
+        b"(refine (eq (s secret) (c secret)))",
+        b"(refine (eq (s secret) (c @10)))",
+    ),
     (Which::H, b"(step 1)", b"\r\n(step\t01)"),
 ];
 
 /// A text with a piece of it replaced, or nothing where the piece isn't in it.
-fn edited(alloc: Global, text: &[u8], old: &[u8], new: &[u8]) -> Result<Vec<u8>, AllocError> {
+pub(crate) fn edited(
+    alloc: Global,
+    text: &[u8],
+    old: &[u8],
+    new: &[u8],
+) -> Result<Vec<u8>, AllocError> {
     for (k, _) in text.iter().enumerate() {
         if let Some(rest) = text[k..].strip_prefix(old) {
             let mut out = Vec::from_slice(alloc, &text[..k])?;
@@ -156,7 +197,10 @@ fn one_line_leaves_the_form(rt: HostRuntime) -> Result<(), Fail> {
         let mut lines = Vec::from_slice(rt.alloc(), LAST)?;
         lines.extend_from_slice(line)?;
         let text = edited(rt.alloc(), SMALL.c, LAST, lines.as_slice())?;
-        let texts = Texts { c: text.as_slice(), ..SMALL };
+        let texts = Texts {
+            c: text.as_slice(),
+            ..SMALL
+        };
         let status = verify(rt.alloc(), texts, Vec::new(rt.alloc()))?.status;
         assert_eq!(rt; status, Status::NotYet, "{number}");
     }

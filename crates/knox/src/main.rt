@@ -13,6 +13,8 @@ mod judging;
 mod outcome;
 mod reading;
 mod run;
+#[cfg(test)]
+mod run_tests;
 mod saying;
 mod status;
 #[cfg(test)]

@@ -13,9 +13,9 @@ use crate::judging::{Unjudged, check_given, judge};
 use crate::outcome::Outcome;
 use crate::reading::{Refused, read_texts};
 use crate::status::Status;
-use knox_verify::Verdict;
 use crate::words::Words;
 use knox_edge::{Shelf, ShelfEnd, Sink};
+use knox_verify::Verdict;
 use std::alloc::Global;
 
 /// The names of a command's texts: five words after the first, or all of fewer.

@@ -120,6 +120,7 @@ script-read c s d e h p x y z w one f n =
   where
     Said : Circuit → SpecParts → DriverParts → EmuParts → Type 0
     Said x y z w = Reads (script_text x y z w) h p.script × StartsRefined (design (record { circuit = x; spec = y; driver = z; emulator = w; script = p.script })) (hints (record { circuit = x; spec = y; driver = z; emulator = w; script = p.script }))
+
     of-same : (x : Circuit) (y : SpecParts) (z : DriverParts) (w : EmuParts) → p.circuit ≡ x → p.spec ≡ y → p.driver ≡ z → p.emulator ≡ w → Said x y z w
     of-same x y z w circuits specs drivers emulators =
         subst (λ k. Said x y z k) emulators (subst (λ k. Said x y k p.emulator) drivers (subst (λ k. Said x k p.driver p.emulator) specs (subst (λ k. Said k p.spec p.driver p.emulator) circuits (f.meant.script, f.starts))))
