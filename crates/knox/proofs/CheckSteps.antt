@@ -1,12 +1,10 @@
 -- Lines of a proof, taken one after another while they are read.
 use Rattle.std.proofs.Common.{◌≡◌, ◌∙◌, ℕ, List, [], ◌∷◌, ◌++◌, ap, sym, refl, subst, inl, inr, ◌⊎◌, append_assoc, append-nil, Result, Ok, Err, Bool, true, false}
-use Rattle.knox_cnf.specs.Formulas.{clauses_true}
-use Rattle.knox_cnf.specs.declared.formula.Cnf.{Cnf}
 use Rattle.lrat_check.specs.declared.step.Step.{Step}
 use Rattle.lrat_check.specs.declared.step.Step.TheVariants.{Memory}
 use Rattle.lrat_check.specs.declared.lemma.Lemma.{Lemma}
 use Rattle.lrat_check.specs.Hints.{Answers}
-use Rattle.lrat_check.specs.Derivations.{Proof, proof, with_lemma, lemma, answer, live_without, is_closed, start_of}
+use Rattle.lrat_check.specs.Derivations.{Proof, proof, with_lemma, lemma, answer, live_without, is_closed}
 use Rattle.lrat_check.specs.Soundness.{IsUnsatisfiable}
 use Rattle.proof_text.specs.declared.fault.ProofFault.{ProofFault}
 use Rattle.proof_text.specs.declared.fault.ProofFault.TheVariants as fault
@@ -15,7 +13,7 @@ use Rattle.proof_text.specs.declared.proof_line.ProofLine.TheVariants.{Add, Dele
 use Rattle.proof_text.specs.Results.{and_then}
 use Rattle.knox.specs.declared.checking.CheckEnd.{CheckEnd}
 use Rattle.knox.specs.declared.checking.CheckEnd.TheVariants.{Verified, Rejected, NoEmptyClause}
-use Rattle.knox.specs.Checking.{line_number, admitted, deleted, with_line, Accepts, Refuses, EndsAs, Shows}
+use Rattle.knox.specs.Checking.{line_number, admitted, deleted, with_line, Accepts, EndsAs, Shows}
 
 -- ---- one line
 

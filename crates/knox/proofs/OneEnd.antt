@@ -1,8 +1,7 @@
 -- The check of two texts has one end, or one fault.
-use Rattle.std.proofs.Common.{◌≡◌, ◌∙◌, ℕ, zero, suc, List, [], ◌∷◌, ◌++◌, ap, sym, refl, subst, Result, Ok, Err, Bool, true, false}
+use Rattle.std.proofs.Common.{◌≡◌, ◌∙◌, ℕ, zero, suc, List, [], ◌∷◌, ◌++◌, ap, sym, refl, subst, Result, Ok, Err, true, false}
 use Rattle.std.proofs.lemmas.Bool.{true≢false}
 use Rattle.knox_edge.specs.Texts.{Bytes}
-use Rattle.knox_cnf.specs.declared.formula.Cnf.{Cnf}
 use Rattle.lrat_check.specs.declared.step.Step.{Step}
 use Rattle.lrat_check.specs.Derivations.{Proof, start_of, is_closed}
 use Rattle.proof_text.specs.declared.fault.ProofFault.{ProofFault}
