@@ -61,8 +61,16 @@ const OUTSIDE: [Edit; 36] = [
     (Which::S, b"(assign secret v)", b"(assign v v)"),
     (Which::S, b"(assign secret v)", b"(assign secret w)"),
     (Which::S, b"(assign secret v)", b"(if #b1 () ())"),
-    (Which::S, b"((v 4))", b"((v 4) (v 4))"),
-    (Which::S, b"(op check", b"(op set"),
+    (
+        Which::S,
+        b"(op check",
+        b"(op twice ((v 4) (v 4)) 1 (result #b1)) (op check",
+    ),
+    (
+        Which::S,
+        b"(op check",
+        b"(op set ((v 4)) 1 (result #b1)) (op check",
+    ),
     (Which::S, b"(eq g secret)", b"(eq g)"),
     (Which::S, b"(eq g secret)", b"(ulte g secret)"),
     (Which::S, b"secret))))", b"secret)))))"),
@@ -78,7 +86,11 @@ const OUTSIDE: [Edit; 36] = [
         b"(persistent secret)",
         b"(persistent secret) (idle)",
     ),
-    (Which::D, b"(persistent secret)", b"(call set (result #b1))"),
+    (
+        Which::D,
+        b"(persistent secret)",
+        b"(persistent secret) (call set (result #b1))",
+    ),
     (Which::E, b"(field ok 1 0)", b"(copy) (field ok 1 0)"),
     (Which::E, b"(outputs (ok ok))", b"(outputs (ok ok) (ok ok))"),
     (Which::E, b"(outputs (ok ok))", b"(outputs (no ok))"),
@@ -107,7 +119,7 @@ const OUTSIDE: [Edit; 36] = [
     (
         Which::H,
         b"(refine (eq (s secret) (c secret)))",
-        b"(refine (c ok))",
+        b"(refine (not (c ok)))",
     ),
     (Which::H, b"(refine (eq (s secret) (c secret)))", b""),
     (Which::H, b"(wire", b"(idle #b1) (wire"),
@@ -197,6 +209,7 @@ fn one_line_leaves_the_form(rt: HostRuntime) -> Result<(), Fail> {
         let mut lines = Vec::from_slice(rt.alloc(), LAST)?;
         lines.extend_from_slice(line)?;
         let text = edited(rt.alloc(), SMALL.c, LAST, lines.as_slice())?;
+        assert!(rt; text.len() > SMALL.c.len(), "{number}");
         let texts = Texts {
             c: text.as_slice(),
             ..SMALL

@@ -71,7 +71,7 @@ const WEAK_HINTS: &[u8] = b"\
  (subsume A))\n\
 ";
 
-/// The circuit shows whether its secret is 0.
+/// The circuit shows whether its secret is another than 0, and never `ok`.
 const LEAKING: &[u8] = b"\
 1 sort bitvec 1\n\
 2 sort bitvec 2\n\
@@ -353,42 +353,16 @@ fn verdicts_and_their_lines(rt: HostRuntime) -> Result<(), Fail> {
 }
 
 #[test]
-fn texts_outside_the_form(rt: HostRuntime) -> Result<(), Fail> {
+fn a_text_outside_the_form(rt: HostRuntime) -> Result<(), Fail> {
     let alloc = rt.alloc();
-    let cases = [
-        // A width over 8, an operator that isn't built, a call of an operation, a copy, a script
-        // without `wire`, and a relation that doesn't hold of the factory state.
-        Texts {
-            c: b"1 sort bitvec 9\n",
-            ..SMALL
-        },
-        Texts {
-            s: b"(spec (field secret 4 0) (op f () 4 (result (inc secret))))",
-            ..SMALL
-        },
-        Texts {
-            d: b"(driver (persistent secret) (call set (result #b1)))",
-            ..SMALL
-        },
-        Texts {
-            e: b"(emulator (copy))",
-            ..SMALL
-        },
-        Texts {
-            h: b"(refine #b1)",
-            ..SMALL
-        },
-        Texts {
-            h: b"(refine #b0) (wire (cut A #b1) (step 1) (subsume A))",
-            ..SMALL
-        },
-    ];
-    for texts in cases {
-        let ran = verify(alloc, texts, Vec::new(alloc))?;
-        assert_eq!(rt; ran.status, Status::NotYet);
-        assert!(rt; ran.err.as_slice() == b"not yet\n".as_slice());
-        assert!(rt; ran.out.is_empty());
-    }
+    let texts = Texts {
+        h: b"(refine #b1)",
+        ..SMALL
+    };
+    let ran = verify(alloc, texts, Vec::new(alloc))?;
+    assert_eq!(rt; ran.status, Status::NotYet);
+    assert!(rt; ran.err.as_slice() == b"not yet\n".as_slice());
+    assert!(rt; ran.out.is_empty());
     Ok(())
 }
 
