@@ -2,7 +2,7 @@
 use Rattle.std.proofs.Common.{◌≡◌, ℕ, zero, suc, ◌+◌, ◌-◌, ◌==◌, nat_lt, List, [], ◌∷◌, ◌++◌, drop, slice_get, Option, Some, Bool, true, false, if◌then◌else◌, refl, sym, ◌∙◌, ap, append_assoc, arith, add-one, inl, inr}
 use Rattle.std.proofs.lemmas.Grind.{common_steps}
 use Rattle.std.proofs.lemmas.Bool.Decides.{eqb_tells}
-use Rattle.knox_words.specs.Bits.{Bits, word_or}
+use Rattle.knox_words.specs.Bits.{word_or}
 use Rattle.knox_words.specs.Lists.{Words}
 use Rattle.knox_lang.specs.declared.expr.Expr.{Expr}
 use Rattle.knox_lang.specs.declared.expr.Stmt.{Stmt, out-Stmt}
@@ -12,7 +12,7 @@ use Rattle.driver_machine.specs.declared.position.Way.TheVariants as way
 use Rattle.driver_machine.specs.declared.position.Position.{Position}
 use Rattle.driver_machine.specs.declared.part.Part.{Part}
 use Rattle.driver_machine.specs.declared.part.Part.TheVariants as part
-use Rattle.driver_machine.specs.Sight.{Run, Setting, value, holds}
+use Rattle.driver_machine.specs.Sight.{Setting, holds}
 use Rattle.driver_machine.specs.Left.{Item, Does, Again, on, turns_from, Next, Went, NoTurns, begun, next}
 use Rattle.driver_machine.specs.Place.{inner_of, inner_in, Top, top, items_left, bumped, entered, after_list, while_in}
 use Rattle.driver_machine.specs.Begins.{Doing, Begins, Goes, Moves, Retests, Tests}

@@ -4,3 +4,7 @@ pub mod Arms
 pub mod Meaning
 pub mod Lowers
 pub mod Steps
+pub mod Ending
+pub mod Moving
+pub mod Keeping
+pub mod Lawfully

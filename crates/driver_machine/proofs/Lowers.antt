@@ -1,7 +1,6 @@
 -- Each part lowers the number of parts that are left.
-use Rattle.std.proofs.Common.{◌≡◌, ℕ, zero, suc, ◌+◌, ◌-◌, ◌*◌, ◌<◌, ◌≤◌, List, [], ◌∷◌, ◌++◌, map, Option, Bool, true, false, if◌then◌else◌, refl, sym, ◌∙◌, ap, arith, add-one, subst}
-use Rattle.std.proofs.lemmas.Grind.{common_steps}
-use Rattle.knox_words.specs.Bits.{Bits, word_or}
+use Rattle.std.proofs.Common.{◌≡◌, ℕ, zero, suc, ◌+◌, ◌-◌, ◌*◌, ◌<◌, ◌≤◌, List, [], ◌∷◌, ◌++◌, Option, Bool, true, false, if◌then◌else◌, refl, sym, ◌∙◌, ap, arith, subst}
+use Rattle.knox_words.specs.Bits.{word_or}
 use Rattle.knox_words.specs.Lists.{Words}
 use Rattle.knox_theory.specs.Design.{Config}
 use Rattle.knox_circuit.specs.declared.line.Line.{Line}
@@ -11,7 +10,7 @@ use Rattle.knox_lang.specs.declared.expr.Stmt.TheOpen.{Stmt-F}
 use Rattle.knox_lang.specs.declared.parts.DriverParts.{DriverParts}
 use Rattle.driver_machine.specs.Sight.{Run, Setting, setting, holds}
 use Rattle.driver_machine.specs.Left.{Item, Does, Again, Left, Rest, Over, on, turns_from, Next, Went, Ticks, NoTurns, AtResult, next_turn, begun, next, arrived, run_of, step}
-use Rattle.driver_machine.specs.Moves.{total, stmt_parts, parts_level, list_parts, item_parts, items_parts, parts_left}
+use Rattle.driver_machine.specs.Moves.{stmt_parts, parts_level, list_parts, item_parts, items_parts, parts_left}
 
 parts-append : (xs ys : List Item) → items_parts (xs ++ ys) ≡ items_parts xs + items_parts ys
 parts-append [] ys = omega arith

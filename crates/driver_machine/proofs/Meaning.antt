@@ -1,8 +1,7 @@
 -- What is left of a body means the same before each part and after it.
 use Rattle.std.proofs.Common.{◌≡◌, ℕ, zero, suc, ◌+◌, List, [], ◌∷◌, ◌++◌, slice_get, Option, Bool, true, false, if◌then◌else◌, refl, sym, ◌∙◌, ap}
-use Rattle.knox_words.specs.Bits.{Bits, word_or}
+use Rattle.knox_words.specs.Bits.{word_or}
 use Rattle.knox_words.specs.Lists.{Words}
-use Rattle.knox_theory.specs.Device.{Reply}
 use Rattle.knox_theory.specs.Design.{Config}
 use Rattle.knox_circuit.specs.declared.line.Line.{Line}
 use Rattle.knox_lang.specs.declared.expr.Expr.{Expr}
@@ -10,30 +9,9 @@ use Rattle.knox_lang.specs.declared.expr.Stmt.{Stmt, out-Stmt, fold_out-Stmt, ma
 use Rattle.knox_lang.specs.declared.expr.Stmt.TheOpen.{Stmt-F}
 use Rattle.knox_lang.specs.declared.parts.DriverParts.{DriverParts}
 use Rattle.driver_machine.specs.Sight.{Run, Setting, setting, holds}
-use Rattle.driver_machine.specs.Drive.{Outcome, GoesOn, Stops, Action, then_does, in_order, turns, loops, drive_level, drives, drives_all, replied, stmts_of, result_of, first_run, drive}
+use Rattle.driver_machine.specs.Drive.{Outcome, GoesOn, Stops, Action, then_does, turns, loops, drive_level, drives, drives_all, replied, stmts_of, result_of, first_run, drive}
+use Rattle.driver_machine.specs.Means.{go_on, item_does, items_do, means_in, means}
 use Rattle.driver_machine.specs.Left.{Item, Does, Again, Left, Rest, Over, on, turns_from, Next, Went, Ticks, NoTurns, AtResult, next_turn, begun, next, arrived, run_of, step, start}
-
--- more, where it goes on
-abbrev pub go_on : Outcome → (Run → Outcome) → Outcome
-go_on (GoesOn run) f = f run
-go_on (Stops run) f = Stops run
-
-abbrev pub item_does : Setting → Item → Run → Outcome
-item_does g (Does s b) run = drives g s run b
-item_does g (Again e n body b) run = loops (λ r c. holds g r c e) (drives_all g body) n run b
-
--- what the items do in order
-abbrev pub items_do : Setting → List Item → Run → Outcome
-items_do g [] run = GoesOn run
-items_do g (i ∷ is) run = go_on (item_does g i run) (items_do g is)
-
-abbrev pub means_in : List Line → DriverParts → Left → Run → Reply × Words
-means_in lines d (Over r) run = (r, run.cells)
-means_in lines d (Rest items args result) run = replied (setting lines d.funs args) result (items_do (setting lines d.funs args) items run)
-
--- the reply and the cells in which a configuration will end
-abbrev pub means : List Line → DriverParts → Config Left → Reply × Words
-means lines d c = means_in lines d c.left (run_of c)
 
 assoc : (o : Outcome) (f k h : Run → Outcome) → ((r : Run) → k r ≡ go_on (f r) h) → go_on o k ≡ go_on (go_on o f) h
 assoc (GoesOn run) f k h e = e run

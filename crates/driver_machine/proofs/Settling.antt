@@ -1,7 +1,7 @@
 -- What is left stays the same as lists that have ended are left.
 use Rattle.std.proofs.Common.{◌≡◌, ℕ, zero, suc, ◌+◌, ◌-◌, ◌<◌, ◌≤◌, List, [], ◌∷◌, ◌++◌, drop, slice_get, Option, Some, refl, sym, ◌∙◌, ap, append_assoc, arith, add-one, length, Bool, true, false, nat_lt, ◌&&◌, if◌then◌else◌}
 use Rattle.std.proofs.lemmas.Grind.{common_steps}
-use Rattle.knox_words.specs.Bits.{Bits, word_or}
+use Rattle.knox_words.specs.Bits.{word_or}
 use Rattle.knox_lang.specs.declared.expr.Stmt.{Stmt, out-Stmt}
 use Rattle.knox_lang.specs.declared.expr.Stmt.TheOpen.{Stmt-F}
 use Rattle.driver_machine.specs.declared.position.Way.{Way}

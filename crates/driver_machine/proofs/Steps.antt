@@ -2,11 +2,9 @@
 use Rattle.std.proofs.Common.{◌≡◌, List, Option, Some, None, slice_get, refl, sym, ◌∙◌, ap, subst}
 use Rattle.knox_words.specs.Bits.{Bits}
 use Rattle.knox_words.specs.Lists.{Words}
-use Rattle.knox_theory.specs.Design.{Config}
 use Rattle.knox_circuit.specs.declared.line.Line.{Line}
 use Rattle.knox_lang.specs.declared.expr.Expr.{Expr}
 use Rattle.knox_lang.specs.declared.expr.Stmt.{Stmt}
-use Rattle.knox_lang.specs.declared.parts.Body.{Body}
 use Rattle.knox_lang.specs.declared.parts.Fun.{Fun}
 use Rattle.knox_lang.specs.declared.parts.DriverParts.{DriverParts}
 use Rattle.driver_machine.specs.declared.position.Position.{Position}
@@ -19,7 +17,7 @@ use Rattle.driver_machine.specs.declared.reply.Moved.TheVariants as moved
 use Rattle.driver_machine.specs.declared.config.DriverConfig.{DriverConfig}
 use Rattle.driver_machine.specs.Sight.{Run, Setting, setting, result_value}
 use Rattle.driver_machine.specs.Drive.{stmts_of, result_of}
-use Rattle.driver_machine.specs.Left.{Item, Left, Rest, Over, Next, Went, Ticks, NoTurns, AtResult, next, config, arrived, step}
+use Rattle.driver_machine.specs.Left.{Left, Rest, Next, Went, Ticks, NoTurns, AtResult, next, config, arrived, step}
 use Rattle.driver_machine.specs.Place.{items_left}
 use Rattle.driver_machine.specs.Begins.{Doing, doing, Goes, Moves, run_in}
 use Rattle.driver_machine.specs.Configs.{config_of, left_of, body_of, moved_next, moved_of}
@@ -126,8 +124,7 @@ module _ (lines : List Line) (d : DriverParts) (m m' : DriverConfig) (open_ : m.
       let s = result-next (stmts_of (body_of d m)) (doing m.position (run_in m.scene) to (run_in m'.scene)) (next (setting lines d.funs m.scene.args) (items_left (stmts_of (body_of d m)) m.position) (run_in m.scene)) p in
       let end = result_of (body_of d m) in
       let is : w ≡ result_value (setting lines d.funs m.scene.args) (run_in m.scene) end =
-      w_is ∙ (ap (λ (a : Words). result_value (setting lines d.funs a) (run_in m'.scene) end) args_is ∙ ap (λ (r : Run). result_value (setting lines d.funs m.scene.args) r end) s.1) in
-      (
+      w_is ∙ (ap (λ (a : Words). result_value (setting lines d.funs a) (run_in m'.scene) end) args_is ∙ ap (λ (r : Run). result_value (setting lines d.funs m.scene.args) r end) s.1) in (
         over-is lines d m m' open_ (reply.Value w) _ reply_is refl s.1
             ∙ (ap (λ (v : Bits). config (left_of (body_of d m) m (Some (reply.Value v))) (run_in m.scene)) is
             ∙ sym (step-is lines d m m' open_ AtResult s.0)),

@@ -1,7 +1,6 @@
 -- What is left, as a position moves.
 use Rattle.std.proofs.Common.{◌≡◌, ◌-◌, List, [], ◌∷◌, ◌++◌, drop, slice_get, ◌∙◌, ap, append_assoc, arith}
 use Rattle.std.proofs.lemmas.Grind.{common_steps}
-use Rattle.knox_words.specs.Bits.{Bits}
 use Rattle.knox_lang.specs.declared.expr.Stmt.{Stmt}
 use Rattle.driver_machine.specs.declared.position.Way.{Way}
 use Rattle.driver_machine.specs.declared.position.Frame.{Frame}

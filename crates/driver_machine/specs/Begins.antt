@@ -1,10 +1,9 @@
 -- What doing one part of a body comes to, for the position and for the words that a body works on.
 -- The project's own.
-use Rattle.std.specs.Prelude.{◌≡◌, ℕ, ◌+◌, ◌-◌, ◌==◌, List, [], ◌∷◌, ◌++◌, slice_set, if◌then◌else◌}
-use Rattle.knox_words.specs.Bits.{Bits}
+use Rattle.std.specs.Prelude.{◌≡◌, ℕ, ◌-◌, ◌==◌, List, ◌++◌, slice_set, if◌then◌else◌}
 use Rattle.knox_words.specs.Lists.{Words}
 use Rattle.knox_circuit.specs.Circuit.{state_after_tick}
-use Rattle.knox_lang.specs.declared.expr.Stmt.{Stmt, out-Stmt}
+use Rattle.knox_lang.specs.declared.expr.Stmt.{Stmt}
 use Rattle.knox_lang.specs.declared.expr.Stmt.TheOpen.{Stmt-F}
 use Rattle.driver_machine.specs.declared.position.Way.TheVariants as way
 use Rattle.driver_machine.specs.declared.position.Position.{Position}

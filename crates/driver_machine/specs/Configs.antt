@@ -1,8 +1,7 @@
 -- A driver's configuration as what is left of its body, with cells, inputs and locals; and whether
 -- it is one of a circuit and a driver. The project's own.
-use Rattle.std.specs.Prelude.{ℕ, ◌-◌, List, Option, Some, None, Bool, slice_get}
+use Rattle.std.specs.Prelude.{◌≡◌, ◌<◌, ℕ, List, Option, Some, None, slice_get, slice_set}
 use Rattle.knox_words.specs.Bits.{Bits}
-use Rattle.knox_words.specs.Lists.{Words}
 use Rattle.knox_theory.specs.Device.{Replied, OutOfTurns}
 use Rattle.knox_theory.specs.Device as theory
 use Rattle.knox_theory.specs.Design.{Config}
@@ -15,7 +14,7 @@ use Rattle.driver_machine.specs.declared.reply.Reply.TheVariants as reply
 use Rattle.driver_machine.specs.declared.reply.Moved.{Moved}
 use Rattle.driver_machine.specs.declared.reply.Moved.TheVariants as moved
 use Rattle.driver_machine.specs.declared.config.DriverConfig.{DriverConfig}
-use Rattle.driver_machine.specs.Sight.{Setting, setting, Run, result_value}
+use Rattle.driver_machine.specs.Sight.{Run, Setting, setting, result_value}
 use Rattle.driver_machine.specs.Drive.{stmts_of, result_of}
 use Rattle.driver_machine.specs.Left.{Left, Rest, Over, Next, Went, Ticks, NoTurns, AtResult, next, config, run_of}
 use Rattle.driver_machine.specs.Place.{items_left}
@@ -39,9 +38,20 @@ abbrev pub left_of : Option Body → DriverConfig → Option Reply → Left
 left_of b m (Some r) = Over (meant r)
 left_of b m None = Rest (items_left (stmts_of b) m.position) m.scene.args (result_of b)
 
+-- the words that it works on
+abbrev pub run_at : DriverConfig → Run
+run_at m = run_in m.scene
+
 -- the configuration of a driver
 abbrev pub config_of : DriverParts → DriverConfig → Config Left
-config_of d m = config (left_of (body_of d m) m m.reply) (run_in m.scene)
+config_of d m = config (left_of (body_of d m) m m.reply) (run_at m)
+
+-- another word at one place, and all else as it was
+abbrev pub with_word : DriverConfig → ℕ → Bits → DriverConfig
+with_word m k w = record m { scene = record (m.scene) { state = record { words = slice_set m.scene.state.words k w } } }
+
+abbrev pub with_local : DriverConfig → ℕ → Bits → DriverConfig
+with_local m k w = record m { scene = record (m.scene) { locals = slice_set m.scene.locals k w } }
 
 -- what a step answers
 abbrev pub moved_next : Setting → Option Expr → Run → Next → Moved
@@ -56,3 +66,8 @@ moved_in lines d (Rest items args result) run = moved_next (setting lines d.funs
 
 abbrev pub moved_of : List Line → DriverParts → Config Left → Moved
 moved_of lines d c = moved_in lines d c.left (run_of c)
+
+-- a step that hasn't ended the body leaves fewer parts, and one that has leaves none
+abbrev pub LowersParts : Moved → (before after : ℕ) → Type 0
+LowersParts (moved.Done r) m n = n ≡ 0
+LowersParts _ m n = n < m

@@ -3,7 +3,7 @@
 -- sets an input. A `while` with bound n is n nested conditionals; where its test still holds after n
 -- turns, the body is out of turns, and that ends the whole of it. The language is the project's own.
 use Rattle.std.specs.Prelude.{ℕ, zero, suc, ◌+◌, List, [], ◌∷◌, ◌++◌, map, slice_get, slice_set, Option, Some, None, Bool, if◌then◌else◌}
-use Rattle.knox_words.specs.Bits.{Bits, word_or}
+use Rattle.knox_words.specs.Bits.{word_or}
 use Rattle.knox_words.specs.Lists.{Words}
 use Rattle.knox_theory.specs.Device.{Reply, Replied, OutOfTurns}
 use Rattle.knox_circuit.specs.declared.line.Line.{Line}

@@ -1,7 +1,7 @@
 -- What is left of a driver's body, and its next part. Loops are unfolded turn by turn: a `for` when
 -- it is begun, a `while` one turn at each test. The project's own.
-use Rattle.std.specs.Prelude.{ℕ, zero, suc, ◌+◌, List, [], ◌∷◌, ◌++◌, map, slice_get, slice_set, Option, Some, None, Bool, true, false, if◌then◌else◌}
-use Rattle.knox_words.specs.Bits.{Bits, word_or}
+use Rattle.std.specs.Prelude.{ℕ, zero, suc, ◌+◌, List, [], ◌∷◌, ◌++◌, map, slice_get, slice_set, Option, Bool, true, false, if◌then◌else◌}
+use Rattle.knox_words.specs.Bits.{word_or}
 use Rattle.knox_words.specs.Lists.{Words}
 use Rattle.knox_theory.specs.Device.{Reply, Replied, OutOfTurns}
 use Rattle.knox_theory.specs.Design.{Config}

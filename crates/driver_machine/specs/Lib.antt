@@ -9,3 +9,4 @@ pub mod Begins
 pub mod Configs
 pub mod Fits
 pub mod Lawful
+pub mod Means

@@ -1,13 +1,12 @@
 -- How many parts are left of a driver's body at most, and the moves to the place directly after the
 -- next tick. The project's own.
-use Rattle.std.specs.Prelude.{ℕ, zero, suc, ◌+◌, ◌*◌, List, [], ◌∷◌, ◌++◌, ◌||◌, map, Bool, true, false, if◌then◌else◌}
-use Rattle.knox_words.specs.Lists.{Words}
+use Rattle.std.specs.Prelude.{ℕ, zero, suc, ◌+◌, ◌*◌, List, [], ◌∷◌, ◌++◌, map, Bool, if◌then◌else◌}
 use Rattle.knox_theory.specs.Design.{Config}
 use Rattle.knox_circuit.specs.declared.line.Line.{Line}
 use Rattle.knox_lang.specs.declared.expr.Stmt.{Stmt, fold-Stmt}
 use Rattle.knox_lang.specs.declared.expr.Stmt.TheOpen.{Stmt-F}
 use Rattle.knox_lang.specs.declared.parts.DriverParts.{DriverParts}
-use Rattle.driver_machine.specs.Left.{Item, Does, Again, Left, Rest, Over, step, step_ticks, step_tests, ended}
+use Rattle.driver_machine.specs.Left.{Item, Does, Again, Left, Rest, Over, step, step_ticks, step_tests}
 
 abbrev pub total : List ℕ → ℕ
 total [] = 0

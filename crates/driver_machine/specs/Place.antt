@@ -1,6 +1,6 @@
 -- What is left of a body at a position. The project's own.
 use Rattle.std.specs.Prelude.{◌<◌, length, ℕ, ◌+◌, ◌-◌, nat_lt, List, [], ◌∷◌, ◌++◌, drop, slice_get, Option, Some, None, if◌then◌else◌}
-use Rattle.knox_words.specs.Bits.{Bits, word_or}
+use Rattle.knox_words.specs.Bits.{word_or}
 use Rattle.knox_words.specs.Lists.{Words}
 use Rattle.knox_lang.specs.declared.expr.Stmt.{Stmt, out-Stmt}
 use Rattle.knox_lang.specs.declared.expr.Stmt.TheOpen.{Stmt-F}

@@ -30,6 +30,7 @@ fn begin(
     requires place { pos.old.place < 2 ^ 63 }
     ensures done { IfOk result (λ r. Begins (setting c.now.lines funs.now scene.old.args) bound.old (out-Stmt s.now) (doing pos.old (run_in scene.old) pos.new (run_in scene.new)) r) }
     ensures args { scene.new.args ≡ scene.old.args }
+    ensures count { length scene.new.state.words ≡ words_in (cells_of c.now.lines) }
     ensures err { OnErr result (scene.new ≡ scene.old) }
 {
     match s {
@@ -101,6 +102,7 @@ fn do_statement(
     requires place { IsAtStatement body.now pos.old }
     ensures done { IfOk result (λ r. Moves (setting c.now.lines funs.now scene.old.args) body.now (doing pos.old (run_in scene.old) pos.new (run_in scene.new)) r) }
     ensures args { scene.new.args ≡ scene.old.args }
+    ensures count { length scene.new.state.words ≡ words_in (cells_of c.now.lines) }
     ensures err { OnErr result (scene.new ≡ scene.old) }
 {
     let mut bound = Words::new(alloc);
@@ -181,6 +183,7 @@ pub fn do_part(
     requires state { length scene.old.state.words ≡ words_in (cells_of c.now.lines) }
     ensures done { IfOk result (λ r. Moves (setting c.now.lines funs.now scene.old.args) body.now (doing pos.old (run_in scene.old) pos.new (run_in scene.new)) r) }
     ensures args { scene.new.args ≡ scene.old.args }
+    ensures count { length scene.new.state.words ≡ words_in (cells_of c.now.lines) }
     ensures err { OnErr result (scene.new ≡ scene.old) }
 {
     match settle(alloc, pos, body)? {

@@ -8,7 +8,8 @@ ghost use Rattle.driver_machine.specs.Drive.{locals_of, result_of, stmts_of};
 ghost use Rattle.driver_machine.specs.Left.{start, step};
 ghost use Rattle.driver_machine.specs.Sight.{setting, result_value};
 ghost use Rattle.driver_machine.specs.Begins.{run_in};
-ghost use Rattle.driver_machine.specs.Configs.{config_of, moved_of};
+ghost use Rattle.driver_machine.specs.Configs.{config_of, moved_of, run_at, with_word, with_local, LowersParts};
+ghost use Rattle.driver_machine.specs.Moves.{parts_left};
 
 use crate::begin::do_part;
 use crate::part::Part;
@@ -97,7 +98,8 @@ impl DriverConfig {
         op: u32,
         args: &[Word],
     ) -> Result<DriverConfig, AllocError>
-        ensures { IfOk result (λ m. config_of d.now m ≡ start d.now op args.now s.words) }
+        ensures config { IfOk result (λ m. config_of d.now m ≡ start d.now op args.now s.words) }
+        ensures op { IfOk result (λ m. m.op ≡ op) }
     {
         let _circuit = c;
         let parts = d.parts();
@@ -118,6 +120,55 @@ impl DriverConfig {
         })
     }
 
+    /// The circuit's cells.
+    pub fn state(&self) -> &State
+        ensures { result.now.words ≡ (run_at self.now).cells }
+    {
+        &self.scene.state
+    }
+
+    /// The circuit's inputs.
+    pub fn inputs(&self) -> &Inputs
+        ensures { result.now.words ≡ (run_at self.now).inputs }
+    {
+        &self.scene.inputs
+    }
+
+    /// The body's locals in order.
+    pub fn locals(&self) -> &[Word]
+        ensures { result.now ≡ (run_at self.now).locals }
+    {
+        self.scene.locals.as_slice()
+    }
+
+    /// The number of the operation.
+    pub fn op(&self) -> u32
+        ensures { result ≡ self.now.op }
+    {
+        self.op
+    }
+
+    /// The body's reply. `None` exactly where the body has not ended.
+    pub fn reply(&self) -> Option<Reply>
+        ensures { result ≡ self.now.reply }
+    {
+        self.reply
+    }
+
+    /// Replaces a device word, where there is one at this place, and leaves all else as it was.
+    pub fn put_word(&mut self, word: u32, v: Word)
+        ensures { self.new ≡ with_word self.old word v }
+    {
+        self.scene.state.words.put(word as usize, v);
+    }
+
+    /// Replaces a local, where there is one at this place, and leaves all else as it was.
+    pub fn put_local(&mut self, local: u32, v: Word)
+        ensures { self.new ≡ with_local self.old local v }
+    {
+        self.scene.locals.put(local as usize, v);
+    }
+
     /// Does the next part of the body, of which only the result may be left. At the end it changes
     /// nothing and answers the same again. Want of memory changes nothing.
     pub fn step(
@@ -126,9 +177,11 @@ impl DriverConfig {
         c: &Circuit,
         d: &DriverProgram,
     ) -> Result<Moved, AllocError>
-        requires { length self.old.scene.state.words ≡ words_in (cells_of c.now.lines) }
+        requires { length (run_at self.old).cells ≡ words_in (cells_of c.now.lines) }
         ensures config { OnOk result (config_of d.now self.new ≡ step c.now.lines d.now (config_of d.now self.old)) }
         ensures moved { IfOk result (λ r. r ≡ moved_of c.now.lines d.now (config_of d.now self.old)) }
+        ensures fewer { IfOk result (λ r. LowersParts r (parts_left (config_of d.now self.old).left) (parts_left (config_of d.now self.new).left)) }
+        ensures count { length (run_at self.new).cells ≡ words_in (cells_of c.now.lines) }
         ensures err { OnErr result (self.new ≡ self.old) }
     {
         if let Some(reply) = self.reply {
@@ -145,10 +198,11 @@ impl DriverConfig {
         c: &Circuit,
         d: &DriverProgram,
     ) -> Result<Moved, AllocError>
-        requires state { length self.old.scene.state.words ≡ words_in (cells_of c.now.lines) }
+        requires state { length (run_at self.old).cells ≡ words_in (cells_of c.now.lines) }
         requires open_ { self.old.reply ≡ None }
         ensures config { OnOk result (config_of d.now self.new ≡ step c.now.lines d.now (config_of d.now self.old)) }
         ensures moved { IfOk result (λ r. r ≡ moved_of c.now.lines d.now (config_of d.now self.old)) }
+        ensures count { length (run_at self.new).cells ≡ words_in (cells_of c.now.lines) }
         ensures err { OnErr result (self.new ≡ self.old) }
     {
         let parts = d.parts();
@@ -186,7 +240,7 @@ impl DriverConfig {
 
     /// The circuit's cells, from a driver that has done its work.
     pub fn into_state(self) -> State
-        ensures { result ≡ self.scene.state }
+        ensures { result.words ≡ (run_at self).cells }
     {
         let DriverConfig {
             op: _op,

@@ -72,6 +72,7 @@ impl Scene {
     pub fn assign(&mut self, slot: Slot, more: u128, word: Word)
         ensures run { run_in self.new ≡ assigned slot more word (run_in self.old) }
         ensures args { self.new.args ≡ self.old.args }
+        ensures state { self.new.state ≡ self.old.state }
     {
         match slot.space {
             Space::Local => self.locals.put_far(slot.number, more, word),
@@ -92,6 +93,7 @@ impl Scene {
     ) -> Result<(), AllocError>
         ensures run { OnOk result (run_in self.new ≡ assigned slot (value (setting c.now.lines funs.now self.old.args) (run_in self.old) bound.old i.now).value (value (setting c.now.lines funs.now self.old.args) (run_in self.old) bound.old e.now) (run_in self.old)) }
         ensures args { self.new.args ≡ self.old.args }
+        ensures state { self.new.state ≡ self.old.state }
         ensures err { OnErr result (self.new ≡ self.old) }
         ensures bound { bound.new ≡ bound.old }
     {

@@ -5,9 +5,9 @@ ghost use Rattle.driver_machine.specs.Stand.{Resumes, Settles};
 ghost use Rattle.driver_machine.specs.Follows.{follow_of};
 
 use crate::position::{Position, Way, current};
-use std::alloc::{AllocError, Global};
 use knox_lang::Stmt;
 use knox_words::Words;
+use std::alloc::{AllocError, Global};
 
 /// Where a driver stands.
 #[derive(Clone, Copy, Debug, PartialEq, Eq)]

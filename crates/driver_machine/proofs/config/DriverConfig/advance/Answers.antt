@@ -1,17 +1,13 @@
-use Rattle.std.proofs.Common.{◌≡◌, List, Some, arith, refl, sym, subst}
+use Rattle.std.proofs.Common.{◌≡◌, Some, arith, refl, sym, subst}
 use Rattle.std.proofs.lemmas.Grind.{common_steps}
-use Rattle.knox_lang.specs.declared.expr.Stmt.{Stmt}
-use Rattle.knox_lang.specs.declared.parts.Fun.{Fun}
-use Rattle.driver_machine.specs.declared.position.Position.{Position}
 use Rattle.driver_machine.specs.declared.scene.Scene.{Scene}
-use Rattle.driver_machine.specs.declared.part.Part.{Part}
 use Rattle.driver_machine.specs.declared.part.Part.TheVariants as part
 use Rattle.driver_machine.specs.declared.reply.Reply.TheVariants as reply
 use Rattle.driver_machine.specs.declared.reply.Moved.TheVariants as moved
 use Rattle.driver_machine.specs.declared.config.DriverConfig.{DriverConfig}
 use Rattle.driver_machine.specs.Sight.{setting, result_value}
 use Rattle.driver_machine.specs.Drive.{stmts_of, result_of}
-use Rattle.driver_machine.specs.Begins.{doing, Moves, run_in}
+use Rattle.driver_machine.specs.Begins.{run_in}
 use Rattle.driver_machine.specs.Configs.{body_of}
 use Rattle.driver_machine.proofs.Steps.{Steps, moves-as, ran-steps, stuck-steps, result-steps}
 use Rattle.driver_machine.proofs.config.DriverConfig.advance.Goals as goal
