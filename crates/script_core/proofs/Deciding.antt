@@ -155,12 +155,12 @@ used-wanted (Take v rest) [] w c e f =
     let same : w ≡ v = cc in
     let here : fits v c ≡ true = subst (λ k. fits k c ≡ true) same f in
     ap (λ b. if b then c ∷ used (rest c) [] else []) here ∙ ap (λ cs. c ∷ cs) (none-used (rest c))
-used-wanted (Take v rest) (x ∷ front) w c e f = by_test (fits v x) refl e
+used-wanted (Take v rest) (x ∷ front) w c e f = by_test (fits v x) refl e (λ p. used-wanted (rest x) front w c p f)
   where
-    by_test : (b : Bool) → fits v x ≡ b → (if b then wants (rest x) front else None) ≡ Some w → used (Take v rest) (x ∷ (front ++ c ∷ [])) ≡ x ∷ (front ++ c ∷ [])
-    by_test true here p =
-        ap (λ b. if b then x ∷ used (rest x) (front ++ c ∷ []) else []) here ∙ ap (λ cs. x ∷ cs) (used-wanted (rest x) front w c p f)
-    by_test false here p = cc
+    by_test : (b : Bool) → fits v x ≡ b → (if b then wants (rest x) front else None) ≡ Some w →
+        (wants (rest x) front ≡ Some w → used (rest x) (front ++ c ∷ []) ≡ front ++ c ∷ []) → used (Take v rest) (x ∷ (front ++ c ∷ [])) ≡ x ∷ (front ++ c ∷ [])
+    by_test true here p more = ap (λ b. if b then x ∷ used (rest x) (front ++ c ∷ []) else []) here ∙ ap (λ cs. x ∷ cs) (more p)
+    by_test false here p more = cc
 used-wanted (Mark l s rest) front w c e f = used-wanted rest front w c e f
 used-wanted (Tell n rest) front w c e f = used-wanted rest front w c e f
 used-wanted Done front w c e f = cc
