@@ -1,5 +1,5 @@
 -- Tokens, numbers and text lines, step by step.
-use Rattle.std.proofs.Common.{◌≡◌, ℕ, ◌<◌, ◌≤◌, ◌==◌, ◌&&◌, nat_lt, nat_le, Bool, true, false, List, [], ◌∷◌, ◌++◌, length, reverse, Option, Some, None, refl, sym, ◌∙◌, ap, arith, eqb-true, lt-ltb, inl, inr, ◌⊎◌, if◌then◌else◌}
+use Rattle.std.proofs.Common.{◌≡◌, ℕ, ◌<◌, ◌≤◌, ◌==◌, ◌&&◌, nat_lt, nat_le, Bool, true, false, List, [], ◌∷◌, ◌++◌, length, reverse, Option, Some, None, refl, sym, ◌∙◌, ap, arith, eqb-true, lt-ltb, if◌then◌else◌}
 use Rattle.std.proofs.lemmas.Bool.{lt-leb, le-ltb}
 use Rattle.std.proofs.lemmas.List.{reverse-append, append-nil}
 use Rattle.knox_text.specs.Lines.{begins_with}
@@ -10,10 +10,6 @@ use Rattle.knox_circuit.specs.declared.line.Line.{Line}
 use Rattle.knox_circuit.specs.Form.{last_number, is_shape, is_line}
 use Rattle.btor_read.specs.Grammar.{◌>>=◌, Tokens, uncommented, number_at, shape_at, symbol_of, line_of, row, formed}
 use Rattle.btor_read.specs.Growing.{above, grown}
-
-bool_cases : (b : Bool) → (b ≡ true) ⊎ (b ≡ false)
-bool_cases true = inl refl
-bool_cases false = inr refl
 
 uncommented-more : (all : Tokens) (t : List ℕ) (ts : Tokens) → all ≡ t ∷ ts → begins_with 59 t ≡ false → uncommented all ≡ t ∷ uncommented ts
 uncommented-more [] t ts e h = cc

@@ -12,7 +12,7 @@ use Rattle.std.proofs.Math.Nat.{pow-suc, pow-le-pow_right, mul-le-mul_right, mul
 use Rattle.knox_text.specs.declared.place.Place.{Place}
 use Rattle.knox_text.specs.Places.{next, behind, first_place}
 use Rattle.knox_text.specs.Numbers.{is_digit}
-use Rattle.knox_text.proofs.Decimals.{digit-range, all-digits}
+use Rattle.knox_text.proofs.Decimals.{digit-range, all-digits, not-eqb}
 use Rattle.knox_text.proofs.Numbering.{bool_cases}
 use Rattle.knox_sexpr.specs.declared.token.Token.{Token}
 use Rattle.knox_sexpr.specs.declared.token.Token.TheVariants.{Atom, Number}
@@ -22,7 +22,6 @@ use Rattle.knox_sexpr.specs.declared.tree.Tree.TheOpen.{Tree-F}
 use Rattle.knox_sexpr.specs.Tokens.{is_word, run_at, token_of, tokens_of, pieces_in, word_token, value_if, number_or_bad, based, sized, Placed, outside, placed, Piece, Kind, kind, with_byte, joined, longer, pieces, tokens_from}
 use Rattle.knox_sexpr.specs.Grammar.{greatest, depth, Means}
 use Rattle.knox_sexpr.specs.Printing.{binary, number_bytes, Shown, more_at, all_at, spaced, show, lines, lines_at, unplaced, unplaced_level}
-use Rattle.knox_sexpr.proofs.Pieces.{not-eqb}
 use Rattle.knox_sexpr.proofs.Trees.{depth-Atom, depth-Number, depth-List}
 use Rattle.knox_sexpr.proofs.Words.{value-as}
 use Rattle.knox_sexpr.proofs.Meaning.{by_parts}

@@ -16,7 +16,7 @@ use Rattle.knox_sexpr.specs.Faults.{fault_of, first_fault}
 use Rattle.knox_sexpr.specs.Steps.{IsFault}
 use Rattle.knox_sexpr.specs.Grammar.{spelled, greatest, depth, Means}
 use Rattle.knox_sexpr.proofs.Trees.{spelled-Atom, spelled-Number, spelled-List, depth-List, fault-Atom, fault-Number, fault-Open, fault-Close, fault-no_end}
-use Rattle.knox_sexpr.proofs.Pieces.{not-eqb}
+use Rattle.knox_text.proofs.Decimals.{not-eqb}
 
 -- ---- induction on trees
 

@@ -1,6 +1,6 @@
 -- The tokens of a line, and where they stand.
 -- The project's own: a token is a longest run of bytes that are neither spaces nor tabs.
-use Rattle.std.specs.Prelude.{ℕ, suc, ◌+◌, ◌-◌, ◌==◌, ◌||◌, not, Bool, false, if◌then◌else◌, List, [], ◌∷◌, length, map}
+use Rattle.std.specs.Prelude.{◌≡◌, ◌≤◌, ℕ, suc, ◌+◌, ◌-◌, ◌==◌, ◌||◌, not, Bool, false, if◌then◌else◌, List, [], ◌∷◌, length, map, take, drop}
 use Rattle.knox_text.specs.declared.place.Place.{Place}
 
 -- how many bytes of its line stand from its first byte on, and its bytes
@@ -39,3 +39,7 @@ bare_tokens line = map (λ t. t.bytes) (tokens line)
 -- where a token stands in a line with a number and a width. With 0 left it is the line's end.
 abbrev pub place_of : ℕ → ℕ → ℕ → Place
 place_of line width left = record { line = line; column = 1 + width - left }
+
+-- a token's bytes are those of a line from its place on
+abbrev pub Stands : List ℕ → Token → Type 0
+Stands line t = (t.left ≤ length line) × (take (length t.bytes) (drop (length line - t.left) line) ≡ t.bytes)

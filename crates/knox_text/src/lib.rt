@@ -11,6 +11,8 @@ mod place;
 mod tokens;
 
 ghost use Rattle.std.specs.Prelude.{◌≡◌, ℕ, List};
+ghost use Rattle.std.specs.List.{AllByRecursion};
+ghost use Rattle.knox_text.specs.Tokens.{tokens, Stands};
 ghost use Rattle.knox_text.specs.Places.{behind, first_place, place_behind};
 
 pub use cursor::{BadNumber, Cursor, end_place};
@@ -23,4 +25,9 @@ pub use tokens::{CutToken, Token, cut_token};
 /// Going from byte to byte comes to the place that counting gives.
 pub fn places_count()
     ensures { (bytes : List ℕ) → behind first_place bytes ≡ place_behind bytes }
+{}
+
+/// Each token of a line stands in it where its place says.
+pub fn tokens_stand()
+    ensures { (line : List ℕ) → AllByRecursion (Stands line) (tokens line) }
 {}

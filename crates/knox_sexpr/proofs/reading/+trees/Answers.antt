@@ -5,7 +5,7 @@ use Rattle.knox_text.specs.Places.{end_of}
 use Rattle.knox_sexpr.specs.declared.fault.SexprFault.{SexprFault}
 use Rattle.knox_sexpr.specs.Tokens.{tokens_from}
 use Rattle.knox_sexpr.specs.Steps.{IsFault, ReadTrees}
-use Rattle.knox_sexpr.proofs.Pieces.{not-eqb}
+use Rattle.knox_text.proofs.Decimals.{not-eqb}
 use Rattle.knox_sexpr.proofs.Trees.{fault-deep, fault-Bad, fault-opened, read-Atom, read-Number, read-List, unclosed, step}
 use Rattle.knox_sexpr.proofs.reading.+trees.Goals as goal
 
