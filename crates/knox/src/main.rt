@@ -8,6 +8,8 @@ mod checking;
 mod command;
 mod delivery;
 #[cfg(test)]
+mod driver_tests;
+#[cfg(test)]
 mod form_tests;
 mod judging;
 mod outcome;

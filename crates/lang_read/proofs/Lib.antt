@@ -1,4 +1,4 @@
 mod Endings
 mod Faults
+mod Filled
 mod Parts
-pub mod Shown

@@ -1,15 +1,17 @@
 //! Emulators: `(emulator (field x w n) .. (outputs (x e) ..) (tick (local x w) .. stmt ..))`, where
 //! each part may be left out.
-ghost use Rattle.std.specs.Prelude.{◌≡◌, [], IfOk, map, slice_set};
-ghost use Rattle.expr_read.specs.Views.{Gives, Sees};
-ghost use Rattle.lang_read.specs.Emulators.{output_named, is_entered, new_output, alone, entered, entry_in, outputs_entry, entries, shown, entry_trees, behind_outputs, shown_by, empty_body, cell_field, scope, bounded, tick_body, tick_in, tick_of, both_bodies, together, emulator_in, emulator_made, emulator_at, emulator_of, emulator_text};
+ghost use Rattle.std.specs.Prelude.{◌≡◌, IfOk, map};
+ghost use Rattle.expr_read.specs.Views.{Gives};
+ghost use Rattle.lang_read.specs.Emulators.{alone, entered, entry_in, outputs_entry, entries, zero_outputs, shown_by, cell_field, scope, tick_in, tick_of, both_bodies, together, emulator_in, emulator_made, emulator_at, emulator_of, emulator_text};
 
+use crate::body::{MOST_COST, empty_body, silent_body};
 use crate::driver::widths_of;
-use crate::statement::{Home, MOST_COST, Steps, block};
+use crate::entries::{behind_form, filled, form_trees, new_entry};
+use crate::heads::copied_ops;
+use crate::statement::Home;
 use expr_read::{
-    Fields, Group, LangFault, LangWhy, Named, Seen, behind_head, declare, declare_ports,
-    expr_of_width, fault, field_names, fields_of, find, headed_count, is_headed, locals, no_more,
-    parts_of, place_of, symbol_of,
+    Fields, Group, LangFault, LangWhy, Named, behind_head, declare_ports, expr_of_width, fault,
+    field_names, fields_of, headed_count, no_more, parts_of, place_of,
 };
 use knox_circuit::{Cell, Circuit, Port};
 use knox_lang::{
@@ -20,44 +22,6 @@ use knox_text::Place;
 use knox_words::word_or;
 use sqlite_items::Items;
 use std::alloc::{AllocError, Global};
-
-fn empty_body(alloc: Global) -> Body
-    ensures { result ≡ empty_body }
-{
-    Body {
-        locals: Items::new(alloc),
-        stmts: Items::new(alloc),
-        result: None,
-    }
-}
-
-fn copied_args(
-    alloc: Global,
-    args: &[(Items<u8>, u8)],
-) -> Result<Items<(Items<u8>, u8)>, AllocError>
-    ensures { IfOk result (λ copy. copy ≡ args.now) }
-{
-    let mut copy = Items::new(alloc);
-    for arg in args {
-        let name = Items::from_slice(alloc, arg.0.as_slice())?;
-        copy.push((name, arg.1))?;
-    }
-    Ok(copy)
-}
-
-/// The heads of the specification's operations once more.
-fn copied_ops(alloc: Global, ops: &[OpHead]) -> Result<Items<OpHead>, AllocError>
-    ensures { IfOk result (λ copy. copy ≡ ops.now) }
-{
-    let mut copy = Items::new(alloc);
-    for op in ops {
-        let name = Items::from_slice(alloc, op.name.as_slice())?;
-        let args = copied_args(alloc, op.args.as_slice())?;
-        let result = op.result;
-        copy.push(OpHead { name, args, result })?;
-    }
-    Ok(copy)
-}
 
 /// The circuit's cells as fields.
 fn cells_of(alloc: Global, cells: &[Cell]) -> Result<Items<Field>, AllocError>
@@ -75,46 +39,6 @@ fn cells_of(alloc: Global, cells: &[Cell]) -> Result<Items<Field>, AllocError>
     Ok(fields)
 }
 
-/// An entry of `outputs`: the number of the output that it names, and its expression.
-#[derive(Drop)]
-struct Entry {
-    output: u32,
-    expr: Expr,
-}
-
-fn is_entered(output: u32, entries: &[Entry]) -> bool
-    ensures { result ≡ is_entered output entries.now }
-{
-    for entry in entries {
-        if entry.output == output {
-            return true;
-        }
-    }
-    false
-}
-
-/// The output that a tree names.
-fn output_named(tree: &Tree, outs: &[Named]) -> Result<Seen, LangFault>
-    ensures { Gives result (output_named outs.now tree.now) }
-{
-    let name = symbol_of(tree)?;
-    match find(Group::Output, name, outs) {
-        Some(seen) => Ok(seen),
-        None => Err(fault(place_of(tree), LangWhy::UnknownName)),
-    }
-}
-
-/// The output that a tree names, which no entry before names.
-fn new_output(tree: &Tree, outs: &[Named], before: &[Entry]) -> Result<Seen, LangFault>
-    ensures { Gives result (new_output outs.now before.now tree.now) }
-{
-    let seen = output_named(tree, outs)?;
-    if is_entered(seen.slot.number, before) {
-        return Err(fault(place_of(tree), LangWhy::Twice));
-    }
-    Ok(seen)
-}
-
 /// An expression that stands in no body.
 fn alone(alloc: Global, tree: &Tree, width: u8, names: &[Named]) -> Result<Expr, LangFault>
     ensures { Gives result (alone tree.now width names.now) }
@@ -126,23 +50,21 @@ fn alone(alloc: Global, tree: &Tree, width: u8, names: &[Named]) -> Result<Expr,
     Ok(value.expr)
 }
 
-/// The entry of an output and its expression.
+/// The output that an entry at the place names, and its expression.
 fn entered(
     alloc: Global,
+    at: Place,
     x: &Tree,
     e: &Tree,
     outs: &[Named],
     names: &[Named],
-    before: &[Entry],
-) -> Result<Entry, LangFault>
-    ensures { Gives result (entered outs.now names.now before.now x.now e.now) }
+    before: &[(u32, Expr)],
+) -> Result<(u32, Expr), LangFault>
+    ensures { Gives result (entered outs.now names.now at before.now x.now e.now) }
 {
-    let seen = new_output(x, outs, before)?;
+    let seen = new_entry(Group::Output, at, x, outs, before)?;
     let expr = alone(alloc, e, seen.width, names)?;
-    Ok(Entry {
-        output: seen.slot.number,
-        expr,
-    })
+    Ok((seen.slot.number, expr))
 }
 
 /// The parts of an entry whose list is at the place.
@@ -152,12 +74,12 @@ fn entry_in(
     parts: &[Tree],
     outs: &[Named],
     names: &[Named],
-    before: &[Entry],
-) -> Result<Entry, LangFault>
+    before: &[(u32, Expr)],
+) -> Result<(u32, Expr), LangFault>
     ensures { Gives result (entry_in outs.now names.now at before.now parts.now) }
 {
     match parts {
-        [x, e] => entered(alloc, x, e, outs, names, before),
+        [x, e] => entered(alloc, at, x, e, outs, names, before),
         _ => Err(fault(at, LangWhy::Form)),
     }
 }
@@ -168,8 +90,8 @@ fn outputs_entry(
     tree: &Tree,
     outs: &[Named],
     names: &[Named],
-    before: &[Entry],
-) -> Result<Entry, LangFault>
+    before: &[(u32, Expr)],
+) -> Result<(u32, Expr), LangFault>
     ensures { Gives result (outputs_entry outs.now names.now before.now tree.now) }
 {
     let parts = parts_of(tree)?;
@@ -182,7 +104,7 @@ fn entries(
     trees: &[Tree],
     outs: &[Named],
     names: &[Named],
-) -> Result<Items<Entry>, LangFault>
+) -> Result<Items<(u32, Expr)>, LangFault>
     ensures { Gives result (entries outs.now names.now trees.now) }
 {
     let mut entries = Items::new(alloc);
@@ -195,56 +117,13 @@ fn entries(
 
 /// Outputs that are all 0.
 fn zero_outputs(alloc: Global, ports: &[Port]) -> Result<Items<Expr>, AllocError>
-    ensures { IfOk result (λ exprs. exprs ≡ shown ports.now []) }
+    ensures { IfOk result (λ exprs. exprs ≡ zero_outputs ports.now) }
 {
     let mut exprs = Items::new(alloc);
     for port in ports {
         exprs.push(Expr::Lit(word_or(port.width, 0)))?;
     }
     Ok(exprs)
-}
-
-/// Gives the output of an entry its expression.
-#[tactic(auto, using(crate::proofs::Shown::past))]
-fn put(exprs: &mut Items<Expr>, entry: Entry)
-    ensures { exprs.new ≡ slice_set exprs.old entry.output entry.expr }
-{
-    let number = entry.output as usize;
-    if number < exprs.len() {
-        exprs.set(number, entry.expr);
-    }
-}
-
-/// The expressions of outputs in line order, by their entries.
-fn shown(alloc: Global, ports: &[Port], entries: Items<Entry>) -> Result<Items<Expr>, AllocError>
-    ensures { IfOk result (λ exprs. exprs ≡ shown ports.now entries) }
-{
-    let mut exprs = zero_outputs(alloc, ports)?;
-    let mut left = entries;
-    while let Some(entry) = left.pop() {
-        put(&mut exprs, entry);
-    }
-    Ok(exprs)
-}
-
-/// The entries of an `outputs` form at the front.
-fn entry_trees(trees: &[Tree]) -> Result<&[Tree], LangFault>
-    ensures { Sees (λ x. x.now) result (entry_trees trees.now) }
-{
-    match trees.split_first() {
-        Some((tree, _)) if is_headed(tree, b"outputs") => behind_head(tree, b"outputs"),
-        _ => Ok(&[]),
-    }
-}
-
-/// What is left behind an `outputs` form at the front.
-fn behind_outputs(trees: &[Tree]) -> &[Tree]
-    ensures { result.now ≡ behind_outputs trees.now }
-{
-    match trees.split_first() {
-        Some((tree, rest)) if is_headed(tree, b"outputs") => rest,
-        _ => trees,
-    }
 }
 
 /// The expressions of all outputs in line order, by the `outputs` form at the front.
@@ -256,12 +135,12 @@ fn shown_by(
 ) -> Result<Items<Expr>, LangFault>
     ensures { Gives result (shown_by names.now ports.now trees.now) }
 {
-    let trees = entry_trees(trees)?;
+    let trees = form_trees(trees, b"outputs")?;
     let mut outs = Items::new(alloc);
     declare_ports(alloc, Space::Output, ports, &mut outs)?;
     let entries = entries(alloc, trees, outs.as_slice(), names)?;
-    let exprs = shown(alloc, ports, entries)?;
-    Ok(exprs)
+    let zeros = zero_outputs(alloc, ports)?;
+    Ok(filled(zeros, entries))
 }
 
 /// The names that `outputs` sees: fields and inputs.
@@ -271,38 +150,6 @@ fn scope(alloc: Global, fields: &[Field], inputs: &[Port]) -> Result<Items<Named
     let mut names = field_names(alloc, fields)?;
     declare_ports(alloc, Space::Input, inputs, &mut names)?;
     Ok(names)
-}
-
-/// The body of a `tick` list at the place, with these locals.
-fn bounded(at: Place, locals: Items<(Items<u8>, u8)>, steps: Steps) -> Result<Body, LangFault>
-    ensures { Gives result (bounded at locals steps) }
-{
-    if steps.cost > MOST_COST {
-        return Err(fault(at, LangWhy::Bound));
-    }
-    Ok(Body {
-        locals,
-        stmts: steps.stmts,
-        result: None,
-    })
-}
-
-/// The body of a `tick` list at the place, under the names of fields and inputs.
-fn tick_body(
-    alloc: Global,
-    at: Place,
-    trees: &[Tree],
-    names: Items<Named>,
-    ops: &[OpHead],
-) -> Result<Body, LangFault>
-    ensures { Gives result (tick_body names ops.now at trees.now) }
-{
-    let mut names = names;
-    let count = headed_count(trees, b"local");
-    let locals = locals(alloc, &trees[..count])?;
-    declare(alloc, Space::Local, locals.as_slice(), &mut names)?;
-    let steps = block(alloc, Home::Tick, &trees[count..], names.as_slice(), ops)?;
-    bounded(at, locals, steps)
 }
 
 /// `(tick (local x w) .. stmt ..)`.
@@ -315,7 +162,8 @@ fn tick_in(
     ensures { Gives result (tick_in names ops.now tree.now) }
 {
     let parts = behind_head(tree, b"tick")?;
-    tick_body(alloc, place_of(tree), parts, names, ops)
+    let home = Home::Emulator(copied_ops(alloc, ops)?);
+    silent_body(alloc, &home, place_of(tree), parts, names)
 }
 
 /// The body of a `tick` form, if there is one.
@@ -355,7 +203,7 @@ fn both_bodies(
     ensures { Gives result (both_bodies names outs.now ops.now trees.now) }
 {
     let outputs = shown_by(alloc, trees, outs, names.as_slice())?;
-    let tick = tick_of(alloc, behind_outputs(trees), names, ops)?;
+    let tick = tick_of(alloc, behind_form(trees, b"outputs"), names, ops)?;
     Ok(Bodies { outputs, tick })
 }
 

@@ -2,8 +2,12 @@
 //! Read is the first form of the languages; what is outside it is refused.
 #![tactic(auto)]
 
+mod body;
+mod calls;
 mod driver;
 mod emulator;
+mod entries;
+mod heads;
 mod spec;
 mod statement;
 
