@@ -1,6 +1,6 @@
 //! Driver texts of the PIN store by the reader of drivers: what it reads, and the first fault of each
 //! text that is one edit away, with its place.
-use crate::verdict_tests::{CIRCUIT, SPEC};
+use crate::devices::{CIRCUIT, SPEC};
 use knox_circuit::{BtorFault, Circuit};
 use knox_lang::{DriverProgram, SpecProgram};
 use knox_sexpr::SexprFault;
