@@ -161,6 +161,11 @@ abbrev pub cell_names : ℕ → List Cell → List Named
 cell_names k [] = []
 cell_names k (c ∷ cs) = line_names c.name c.number (slot_of spaces.Device k) c.width ++ cell_names (suc k) cs
 
+-- cells whose words are those of a space, by their first words
+abbrev pub word_names : Space → List Cell → List Named
+word_names space [] = []
+word_names space (c ∷ cs) = line_names c.name c.number (slot_of space c.first) c.width ++ word_names space cs
+
 -- cells that are marked, by their first words
 abbrev pub where_marked : Bool → Cell → List Named
 where_marked m c = if m then line_names c.name c.number (slot_of spaces.Device c.first) c.width else []

@@ -2,7 +2,7 @@
 ghost use Rattle.std.specs.Prelude.{◌≡◌, ◌++◌, ◌∷◌, [], take, Some, None, OnOk};
 ghost use Rattle.knox_lang.specs.declared.expr.Space.TheVariants.{Device};
 ghost use Rattle.expr_read.specs.Views.{Gives};
-ghost use Rattle.expr_read.specs.Names.{group_of, is_named, found, seen_of, target_in, target, op_number, is_declared, pair, argument_in, argument, arguments, local_in, local, locals, naming, numbered, field_names, by_name, line_names, port_names, cell_names, where_marked, marked_names};
+ghost use Rattle.expr_read.specs.Names.{group_of, is_named, found, seen_of, target_in, target, op_number, is_declared, pair, argument_in, argument, arguments, local_in, local, locals, naming, numbered, field_names, by_name, line_names, port_names, cell_names, word_names, where_marked, marked_names};
 
 use crate::faults::{LangFault, LangWhy, fault};
 use crate::views::{parts_of, place_of, symbol_of, width_of};
@@ -358,6 +358,26 @@ pub fn declare_fields(
             number: field.first,
         };
         declare_one(alloc, field.name.as_slice(), slot, field.width, names)?;
+    }
+    Ok(())
+}
+
+/// Brings cells into scope whose words are those of a space, by their first words.
+pub fn declare_words(
+    alloc: Global,
+    space: Space,
+    cells: &[Cell],
+    names: &mut Items<Named>,
+) -> Result<(), AllocError>
+    ensures { OnOk result (names.new ≡ names.old ++ word_names space cells.now) }
+{
+    for cell in cells {
+        let slot = Slot {
+            space,
+            number: cell.first,
+        };
+        let name = cell.name.as_slice();
+        declare_line(alloc, name, cell.number, slot, cell.width, names)?;
     }
     Ok(())
 }

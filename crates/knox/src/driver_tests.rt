@@ -19,7 +19,7 @@ const DRIVER: &[u8] = b"\
 /// What a reader answered: nothing is wrong, this is wrong at a line and a column, or the text was
 /// never read.
 #[derive(Clone, Copy, Debug, PartialEq, Eq)]
-enum Read {
+pub(crate) enum Read {
     Fine,
     Wrong(LangWhy, u32, u32),
     Never,
@@ -50,7 +50,7 @@ impl From<LangFault> for Read {
 }
 
 /// The place of a text's end, where the text has no tree.
-const END: Place = Place { line: 1, column: 1 };
+pub(crate) const END: Place = Place { line: 1, column: 1 };
 
 /// The circuit and the specification of the store.
 fn store(alloc: Global) -> Result<(Circuit, SpecProgram), Read> {
@@ -83,7 +83,7 @@ fn wrong_with(alloc: Global, text: &[u8]) -> Read {
 }
 
 /// A text, and what is wrong with it.
-type Row = (&'static [u8], Read);
+pub(crate) type Row = (&'static [u8], Read);
 
 /// Texts without a call, for wires alone.
 const WIRES: [Row; 19] = [

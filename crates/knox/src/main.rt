@@ -12,6 +12,8 @@ mod devices;
 #[cfg(test)]
 mod driver_tests;
 #[cfg(test)]
+mod emulator_tests;
+#[cfg(test)]
 mod form_tests;
 mod judging;
 mod outcome;

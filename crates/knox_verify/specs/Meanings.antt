@@ -29,7 +29,7 @@ pub record MeansDevice (c s d e : Bytes) (circuit : Circuit) (spec : SpecParts) 
   pub circuit_read : circuit_of c ≡ Some circuit
   pub spec_read : Reads spec_text s spec
   pub driver_read : Reads (driver_text circuit spec) d driver
-  pub emulator_read : Reads (emulator_text circuit spec) e emulator
+  pub emulator_read : Reads (emulator_text circuit spec driver) e emulator
   pub fit : fits_device circuit spec driver emulator ≡ true
 
 -- the parts that five texts mean

@@ -104,8 +104,8 @@ fn emulator_of(
     driver: &DriverProgram,
 ) -> Result<EmuProgram, VerifyFault>
     requires { length e.now ≤ 67108864 }
-    ensures meant { IfOk result (λ emulator. Reads (emulator_text circuit.now spec.now) e.now emulator) }
-    ensures only { (p : EmuParts) → Reads (emulator_text circuit.now spec.now) e.now p → IfErr result (λ f. f ≡ Memory) }
+    ensures meant { IfOk result (λ emulator. Reads (emulator_text circuit.now spec.now driver.now) e.now emulator) }
+    ensures only { (p : EmuParts) → Reads (emulator_text circuit.now spec.now driver.now) e.now p → IfErr result (λ f. f ≡ Memory) }
     ensures fault { IfErr result IsNoText }
 {
     knox_sexpr::one_meaning();

@@ -1,3 +1,4 @@
+mod Lacking
 mod Endings
 mod Faults
 mod Filled

@@ -5,3 +5,4 @@ pub mod Specifications
 pub mod Calls
 pub mod Drivers
 pub mod Emulators
+pub mod Examples

@@ -1,8 +1,8 @@
-//! Emulators: `(emulator (field x w n) .. (outputs (x e) ..) (tick (local x w) .. stmt ..))`, where
-//! each part may be left out.
+//! Emulators: `(emulator (field x w n) .. (power (local x w) .. stmt ..) (outputs (x e) ..) (tick (local
+//! x w) .. stmt ..))`, where each part may be left out.
 ghost use Rattle.std.specs.Prelude.{◌≡◌, IfOk, map};
 ghost use Rattle.expr_read.specs.Views.{Gives};
-ghost use Rattle.lang_read.specs.Emulators.{alone, entered, entry_in, outputs_entry, entries, zero_outputs, shown_by, cell_field, scope, tick_in, tick_of, both_bodies, together, emulator_in, emulator_made, emulator_at, emulator_of, emulator_text};
+ghost use Rattle.lang_read.specs.Emulators.{alone, entered, entry_in, outputs_entry, entries, zero_outputs, shown_by, cell_field, scope, power_scope, power_in, power_of, tick_in, tick_of, all_bodies, outside_of, together, bodies_behind, emulator_in, emulator_made, emulator_at, emulator_of, emulator_text};
 
 use crate::body::{MOST_COST, empty_body, silent_body};
 use crate::driver::widths_of;
@@ -10,8 +10,9 @@ use crate::entries::{behind_form, filled, form_trees, new_entry};
 use crate::heads::copied_ops;
 use crate::statement::Home;
 use expr_read::{
-    Fields, Group, LangFault, LangWhy, Named, behind_head, declare_ports, expr_of_width, fault,
-    field_names, fields_of, headed_count, no_more, parts_of, place_of,
+    Fields, Group, LangFault, LangWhy, Named, behind_head, declare_ports, declare_words,
+    expr_of_width, fault, field_names, fields_of, headed_count, is_headed, no_more, parts_of,
+    place_of,
 };
 use knox_circuit::{Cell, Circuit, Port};
 use knox_lang::{
@@ -152,6 +153,34 @@ fn scope(alloc: Global, fields: &[Field], inputs: &[Port]) -> Result<Items<Named
     Ok(names)
 }
 
+/// The names that a power-on sees: fields and words of noise.
+fn power_scope(alloc: Global, fields: &[Field], noise: &[Cell]) -> Result<Items<Named>, AllocError>
+    ensures { IfOk result (λ names. names ≡ power_scope fields.now noise.now) }
+{
+    let mut names = field_names(alloc, fields)?;
+    declare_words(alloc, Space::Noise, noise, &mut names)?;
+    Ok(names)
+}
+
+/// `(power (local x w) .. stmt ..)`.
+fn power_in(alloc: Global, tree: &Tree, names: Items<Named>) -> Result<Body, LangFault>
+    ensures { Gives result (power_in names tree.now) }
+{
+    let parts = behind_head(tree, b"power")?;
+    let home = Home::Plain;
+    silent_body(alloc, &home, place_of(tree), parts, names)
+}
+
+/// The body of a `power` form, if one stands at the front.
+fn power_of(alloc: Global, trees: &[Tree], names: Items<Named>) -> Result<Body, LangFault>
+    ensures { Gives result (power_of names trees.now) }
+{
+    match trees.split_first() {
+        Some((tree, _)) if is_headed(tree, b"power") => power_in(alloc, tree, names),
+        _ => Ok(empty_body(alloc)),
+    }
+}
+
 /// `(tick (local x w) .. stmt ..)`.
 fn tick_in(
     alloc: Global,
@@ -185,69 +214,116 @@ fn tick_of(
     }
 }
 
-/// The outputs and the tick of an emulator.
+/// The power-on, the outputs and the tick of an emulator.
 #[derive(Drop)]
 struct Bodies {
+    power: Body,
     outputs: Items<Expr>,
     tick: Body,
 }
 
-/// What stands behind the fields.
-fn both_bodies(
+/// What stands behind the fields, where a power-on sees other names than outputs and tick.
+fn all_bodies(
     alloc: Global,
     trees: &[Tree],
+    powered: Items<Named>,
     names: Items<Named>,
     outs: &[Port],
     ops: &[OpHead],
 ) -> Result<Bodies, LangFault>
-    ensures { Gives result (both_bodies names outs.now ops.now trees.now) }
+    ensures { Gives result (all_bodies powered names outs.now ops.now trees.now) }
 {
-    let outputs = shown_by(alloc, trees, outs, names.as_slice())?;
-    let tick = tick_of(alloc, behind_form(trees, b"outputs"), names, ops)?;
-    Ok(Bodies { outputs, tick })
-}
-
-/// The parts of an emulator that has no copy of the circuit and does nothing at power-on.
-fn together(
-    alloc: Global,
-    c: &Circuit,
-    s: &SpecProgram,
-    fields: Fields,
-    bodies: Bodies,
-) -> Result<EmuParts, AllocError>
-    ensures { IfOk result (λ parts. parts ≡ together c.now s.now fields bodies) }
-{
-    Ok(EmuParts {
-        fields: fields.fields,
-        init: fields.init,
-        copy: false,
-        ins: widths_of(alloc, c.inputs())?,
-        outs: widths_of(alloc, c.outputs_list())?,
-        noise: Items::new(alloc),
-        cells: cells_of(alloc, c.cells())?,
-        funs: Items::new(alloc),
-        ops: copied_ops(alloc, s.ops())?,
-        power: empty_body(alloc),
-        outputs: bodies.outputs,
-        tick: bodies.tick,
+    let power = power_of(alloc, trees, powered)?;
+    let rest = behind_form(trees, b"power");
+    let outputs = shown_by(alloc, rest, outs, names.as_slice())?;
+    let tick = tick_of(alloc, behind_form(rest, b"outputs"), names, ops)?;
+    Ok(Bodies {
+        power,
+        outputs,
+        tick,
     })
 }
 
-/// What stands in an emulator's list.
+/// What an emulator has of its circuit and its specification.
+#[derive(Drop)]
+struct Outside {
+    ins: Items<u8>,
+    outs: Items<u8>,
+    noise: Items<Field>,
+    cells: Items<Field>,
+    ops: Items<OpHead>,
+}
+
+/// What an emulator has of a circuit and a specification, over the states that have words of noise.
+fn outside_of(
+    alloc: Global,
+    c: &Circuit,
+    s: &SpecProgram,
+    noise: &[Cell],
+) -> Result<Outside, AllocError>
+    ensures { IfOk result (λ out. out ≡ outside_of c.now s.now noise.now) }
+{
+    Ok(Outside {
+        ins: widths_of(alloc, c.inputs())?,
+        outs: widths_of(alloc, c.outputs_list())?,
+        noise: cells_of(alloc, noise)?,
+        cells: cells_of(alloc, c.cells())?,
+        ops: copied_ops(alloc, s.ops())?,
+    })
+}
+
+/// The parts of an emulator that has no copy of the circuit.
+fn together(alloc: Global, outside: Outside, fields: Fields, bodies: Bodies) -> EmuParts
+    ensures { result ≡ together outside fields bodies }
+{
+    EmuParts {
+        fields: fields.fields,
+        init: fields.init,
+        copy: false,
+        ins: outside.ins,
+        outs: outside.outs,
+        noise: outside.noise,
+        cells: outside.cells,
+        funs: Items::new(alloc),
+        ops: outside.ops,
+        power: bodies.power,
+        outputs: bodies.outputs,
+        tick: bodies.tick,
+    }
+}
+
+/// The bodies behind the fields, over the states that have words of noise.
+fn bodies_behind(
+    alloc: Global,
+    trees: &[Tree],
+    c: &Circuit,
+    s: &SpecProgram,
+    noise: &[Cell],
+    fields: &[Field],
+) -> Result<Bodies, LangFault>
+    ensures { Gives result (bodies_behind c.now s.now noise.now fields.now trees.now) }
+{
+    let powered = power_scope(alloc, fields, noise)?;
+    let names = scope(alloc, fields, c.inputs())?;
+    all_bodies(alloc, trees, powered, names, c.outputs_list(), s.ops())
+}
+
+/// What stands in an emulator's list, over the states that have words of noise.
 fn emulator_in(
     alloc: Global,
     parts: &[Tree],
     c: &Circuit,
     s: &SpecProgram,
+    noise: &[Cell],
 ) -> Result<EmuParts, LangFault>
-    ensures { Gives result (emulator_in c.now s.now parts.now) }
+    ensures { Gives result (emulator_in c.now s.now noise.now parts.now) }
 {
+    let outside = outside_of(alloc, c, s, noise)?;
     let count = headed_count(parts, b"field");
     let fields = fields_of(alloc, &parts[..count])?;
-    let names = scope(alloc, fields.fields.as_slice(), c.inputs())?;
-    let bodies = both_bodies(alloc, &parts[count..], names, c.outputs_list(), s.ops())?;
-    let parts = together(alloc, c, s, fields, bodies)?;
-    Ok(parts)
+    let rest = &parts[count..];
+    let bodies = bodies_behind(alloc, rest, c, s, noise, fields.fields.as_slice())?;
+    Ok(together(alloc, outside, fields, bodies))
 }
 
 /// The emulator of these parts, whose list is at the place.
@@ -266,11 +342,13 @@ fn emulator_at(
     tree: &Tree,
     c: &Circuit,
     s: &SpecProgram,
+    d: &DriverProgram,
 ) -> Result<EmuProgram, LangFault>
-    ensures { Gives result (emulator_at c.now s.now tree.now) }
+    ensures { Gives result (emulator_at c.now s.now d.now tree.now) }
 {
     let parts = behind_head(tree, b"emulator")?;
-    let parts = emulator_in(alloc, parts, c, s)?;
+    let noise = c.noise_cells(d.keep())?;
+    let parts = emulator_in(alloc, parts, c, s, noise.as_slice())?;
     emulator_made(place_of(tree), parts)
 }
 
@@ -281,30 +359,31 @@ fn emulator_of(
     more: &[Tree],
     c: &Circuit,
     s: &SpecProgram,
+    d: &DriverProgram,
 ) -> Result<EmuProgram, LangFault>
-    ensures { Gives result (emulator_of c.now s.now tree.now more.now) }
+    ensures { Gives result (emulator_of c.now s.now d.now tree.now more.now) }
 {
-    let emulator = emulator_at(alloc, tree, c, s)?;
+    let emulator = emulator_at(alloc, tree, c, s, d)?;
     no_more(more)?;
     Ok(emulator)
 }
 
 /// The emulator that the trees of a text mean over a circuit, a specification and a driver, where
-/// the text ends at a place. Read today are fields of one word, `outputs`, and a `tick` with
-/// `assign`, `if` and `query`; the driver says which noise an emulator sees at power-on, and in
-/// this form there is none.
+/// the text ends at a place. The driver says which cells are persistent, and so which states have
+/// words of noise at power-on. Read today are fields of one word, `power` with `assign` and `if`,
+/// `outputs`, and a `tick` with `query` besides.
 pub fn read_emulator(
     alloc: Global,
     trees: &[Tree],
     end: Place,
     c: &Circuit,
     s: &SpecProgram,
-    _d: &DriverProgram,
+    d: &DriverProgram,
 ) -> Result<EmuProgram, LangFault>
-    ensures { Gives result (emulator_text c.now s.now end trees.now) }
+    ensures { Gives result (emulator_text c.now s.now d.now end trees.now) }
 {
     match trees.split_first() {
-        Some((tree, more)) => emulator_of(alloc, tree, more, c, s),
+        Some((tree, more)) => emulator_of(alloc, tree, more, c, s, d),
         None => Err(fault(end, LangWhy::Missing)),
     }
 }
