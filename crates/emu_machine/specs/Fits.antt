@@ -51,20 +51,15 @@ same_heads [] (b ∷ bs) = false
 same_heads (a ∷ as') [] = false
 same_heads (a ∷ as') (b ∷ bs) = same_head a b && same_heads as' bs
 
--- whether a driver with the first operations drives a specification with the second: they are the
--- same, or the driver has none, and is for wires alone
-abbrev pub drives : List OpHead → List OpHead → Bool
-drives [] ss = true
-drives (d ∷ ds) ss = same_heads (d ∷ ds) ss
-
 -- a driver of a circuit: it has an idle word for each input, knows the outputs' widths, and says of
 -- each cell whether it is persistent
 abbrev pub fits_circuit : Circuit → DriverParts → Bool
 fits_circuit c d = words_fit (inputs c) d.idle && have_widths d.outs (outputs c) && length d.keep == length (cells_of c.lines)
 
--- the driver drives the specification, and the emulator's operations are those of it
+-- the driver has no operations for now, and is for wires alone; the emulator's are those of the
+-- specification
 abbrev pub fits_specification : SpecParts → DriverParts → EmuParts → Bool
-fits_specification s d e = drives d.ops s.ops && same_heads e.ops s.ops && length s.funs == 0 && length d.funs == 0 && length e.funs == 0
+fits_specification s d e = length d.ops == 0 && same_heads e.ops s.ops && length s.funs == 0 && length d.funs == 0 && length e.funs == 0
 
 -- an emulator of a circuit: it knows the widths of inputs and outputs, and has an expression for
 -- each output. It has no copy of the circuit and does nothing at power-on yet

@@ -1,7 +1,7 @@
 //! Whether the parts of a device fit each other.
 ghost use Rattle.std.specs.Prelude.{◌≡◌, ◌==◌, ◌&&◌};
 ghost use Rattle.std.specs.Str.{bytes_eq};
-ghost use Rattle.emu_machine.specs.Fits.{same_args, same_head, same_heads, drives, have_widths, words_fit, fits_circuit, fits_specification, fits_emulator, fits_device};
+ghost use Rattle.emu_machine.specs.Fits.{same_args, same_head, same_heads, have_widths, words_fit, fits_circuit, fits_specification, fits_emulator, fits_device};
 
 use knox_circuit::{Circuit, Port};
 use knox_lang::{DriverParts, EmuParts, OpHead, SpecParts};
@@ -59,17 +59,6 @@ fn same_heads(a: &[OpHead], b: &[OpHead]) -> bool
     right.is_empty()
 }
 
-/// Whether a driver with some operations drives a specification: the operations are the same, or
-/// the driver has none, and is for wires alone.
-fn drives(driver: &[OpHead], spec: &[OpHead]) -> bool
-    ensures { result ≡ drives driver.now spec.now }
-{
-    match driver {
-        [] => true,
-        [..] => same_heads(driver, spec),
-    }
-}
-
 /// Whether ports have these widths, one for one.
 fn have_widths(widths: &[u8], ports: &[Port]) -> bool
     ensures { result ≡ have_widths widths.now ports.now }
@@ -115,12 +104,12 @@ fn fits_circuit(c: &Circuit, d: &DriverParts) -> bool
         && d.keep.len() == c.cells().len()
 }
 
-/// Whether the driver drives the specification, the emulator has its operations, and none has
-/// functions.
+/// Whether the driver has no operations for now, and is for wires alone, the emulator has those of the
+/// specification, and none has functions.
 fn fits_specification(s: &SpecParts, d: &DriverParts, e: &EmuParts) -> bool
     ensures { result ≡ fits_specification s.now d.now e.now }
 {
-    drives(d.ops.as_slice(), s.ops.as_slice())
+    d.ops.is_empty()
         && same_heads(e.ops.as_slice(), s.ops.as_slice())
         && s.funs.is_empty()
         && d.funs.is_empty()

@@ -17,7 +17,7 @@ use Rattle.expr_read.specs.declared.expression.Typed.{Typed}
 use Rattle.expr_read.specs.declared.expression.Head.{Head}
 use Rattle.expr_read.specs.declared.expression.Head.TheVariants.{Un, Bin, Ite, Bv, Names, Unknown, NoSymbol}
 use Rattle.expr_read.specs.declared.names.Group.{Group}
-use Rattle.expr_read.specs.declared.names.Group.TheVariants.{Plain, Input, Device, Spec, Emu}
+use Rattle.expr_read.specs.declared.names.Group.TheVariants.{Plain, Input, Output, Noise, Device, Spec, Emu, Copy}
 use Rattle.expr_read.specs.declared.names.Named.{Named}
 use Rattle.expr_read.specs.declared.names.Seen.{Seen}
 use Rattle.expr_read.specs.Views.{◌>>=◌, fails, place_of, number_of, is_width, width_of, symbol_of}
@@ -123,8 +123,10 @@ keyword name =
     if bytes_eq name (codes "not") then Un un.Not else if bytes_eq name (codes "redor") then Un un.Redor
     else if bytes_eq name (codes "eq") then Bin bin.Eq else if bytes_eq name (codes "and") then Bin bin.And
     else if bytes_eq name (codes "ite") then Ite else if bytes_eq name (codes "bv") then Bv
-    else if bytes_eq name (codes "in") then Names Input else if bytes_eq name (codes "s") then Names Spec
-    else if bytes_eq name (codes "c") then Names Device else if bytes_eq name (codes "e") then Names Emu else Unknown
+    else if bytes_eq name (codes "in") then Names Input else if bytes_eq name (codes "out") then Names Output
+    else if bytes_eq name (codes "noise") then Names Noise else if bytes_eq name (codes "s") then Names Spec
+    else if bytes_eq name (codes "c") then Names Device else if bytes_eq name (codes "e") then Names Emu
+    else if bytes_eq name (codes "k") then Names Copy else Unknown
 
 abbrev pub head_in : Tree-F Tree → Head
 head_in (Tree-F.Atom at name) = keyword name

@@ -13,7 +13,7 @@ use Rattle.knox_lang.specs.declared.parts.OpHead.{OpHead}
 use Rattle.knox_lang.specs.declared.expr.Space.{Space}
 use Rattle.knox_lang.specs.declared.expr.Space.TheVariants as spaces
 use Rattle.expr_read.specs.declared.names.Group.{Group}
-use Rattle.expr_read.specs.declared.names.Group.TheVariants.{Plain, Input, Output, Device, Spec, Emu, Other}
+use Rattle.expr_read.specs.declared.names.Group.TheVariants.{Plain, Input, Output, Noise, Device, Spec, Emu, Copy, Other}
 use Rattle.expr_read.specs.declared.names.Named.{Named}
 use Rattle.expr_read.specs.declared.names.Seen.{Seen}
 use Rattle.expr_read.specs.declared.faults.LangWhy.TheVariants.{Form, UnknownName, Twice}
@@ -28,19 +28,21 @@ group_of spaces.Bound = Plain
 group_of spaces.Input = Input
 group_of spaces.Output = Output
 group_of spaces.Device = Device
-group_of spaces.Noise = Other
+group_of spaces.Noise = Noise
 group_of spaces.Spec = Spec
 group_of spaces.Emu = Emu
-group_of spaces.Copy = Other
+group_of spaces.Copy = Copy
 group_of spaces.Taken = Other
 
 abbrev pub same_group : Group → Group → Bool
 same_group Plain Plain = true
 same_group Input Input = true
 same_group Output Output = true
+same_group Noise Noise = true
 same_group Device Device = true
 same_group Spec Spec = true
 same_group Emu Emu = true
+same_group Copy Copy = true
 same_group Other Other = true
 same_group a b = false
 
@@ -56,6 +58,14 @@ found group name before [] = before
 found group name before (n ∷ ns) = found group name (if is_named group name n then Some (seen n) else before) ns
 
 -- ---- what is named
+
+-- the word of a group that a tree names
+abbrev pub seen_at : Place → Option Seen → Result Seen LangFault
+seen_at at None = fails at UnknownName
+seen_at at (Some s) = Ok s
+
+abbrev pub seen_of : Group → Tree → List Named → Result Seen LangFault
+seen_of group t names = symbol_of t >>= λ name. seen_at (place_of t) (found group name None names)
 
 -- the target of a statement: a field or a local
 abbrev pub target_in : Place → Seen → Space → Result Seen LangFault
@@ -150,6 +160,11 @@ port_names space k (p ∷ ps) = line_names p.name p.number (slot_of space k) p.w
 abbrev pub cell_names : ℕ → List Cell → List Named
 cell_names k [] = []
 cell_names k (c ∷ cs) = line_names c.name c.number (slot_of spaces.Device k) c.width ++ cell_names (suc k) cs
+
+-- cells whose words are those of a space, by their first words
+abbrev pub word_names : Space → List Cell → List Named
+word_names space [] = []
+word_names space (c ∷ cs) = line_names c.name c.number (slot_of space c.first) c.width ++ word_names space cs
 
 -- cells that are marked, by their first words
 abbrev pub where_marked : Bool → Cell → List Named

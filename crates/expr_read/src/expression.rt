@@ -53,12 +53,18 @@ fn keyword(name: &[u8]) -> Head
         Head::Bv
     } else if name == b"in".as_slice() {
         Head::Names(Group::Input)
+    } else if name == b"out".as_slice() {
+        Head::Names(Group::Output)
+    } else if name == b"noise".as_slice() {
+        Head::Names(Group::Noise)
     } else if name == b"s".as_slice() {
         Head::Names(Group::Spec)
     } else if name == b"c".as_slice() {
         Head::Names(Group::Device)
     } else if name == b"e".as_slice() {
         Head::Names(Group::Emu)
+    } else if name == b"k".as_slice() {
+        Head::Names(Group::Copy)
     } else {
         Head::Unknown
     }

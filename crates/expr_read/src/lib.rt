@@ -13,9 +13,9 @@ pub use faults::{LangFault, LangWhy, fault};
 pub use fields::{Fields, field_names, fields_of};
 pub use names::{
     Group, Named, Seen, arguments, declare, declare_cells, declare_fields, declare_marked,
-    declare_ports, find, forget, locals, op_number, target,
+    declare_ports, declare_words, find, forget, locals, op_number, seen_of, target,
 };
 pub use views::{
-    behind_head, headed_count, is_headed, no_more, number_of, parts_of, place_of, symbol_of,
-    width_of,
+    behind_head, headed_count, is_headed, is_symbol, no_more, number_of, parts_of, place_of,
+    symbol_of, width_of,
 };

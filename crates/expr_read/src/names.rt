@@ -2,7 +2,7 @@
 ghost use Rattle.std.specs.Prelude.{◌≡◌, ◌++◌, ◌∷◌, [], take, Some, None, OnOk};
 ghost use Rattle.knox_lang.specs.declared.expr.Space.TheVariants.{Device};
 ghost use Rattle.expr_read.specs.Views.{Gives};
-ghost use Rattle.expr_read.specs.Names.{group_of, is_named, found, target_in, target, op_number, is_declared, pair, argument_in, argument, arguments, local_in, local, locals, naming, numbered, field_names, by_name, line_names, port_names, cell_names, where_marked, marked_names};
+ghost use Rattle.expr_read.specs.Names.{group_of, is_named, found, seen_of, target_in, target, op_number, is_declared, pair, argument_in, argument, arguments, local_in, local, locals, naming, numbered, field_names, by_name, line_names, port_names, cell_names, word_names, where_marked, marked_names};
 
 use crate::faults::{LangFault, LangWhy, fault};
 use crate::views::{parts_of, place_of, symbol_of, width_of};
@@ -38,12 +38,16 @@ pub enum Group {
     Input,
     /// `(out x)`.
     Output,
+    /// `(noise x)`.
+    Noise,
     /// As a cell in a driver, and `(c x)`.
     Device,
     /// `(s x)`: a field of the specification.
     Spec,
     /// `(e x)`: a field of the emulator.
     Emu,
+    /// `(k x)`: a cell of the emulator's copy.
+    Copy,
     /// By a form that is not read yet.
     Other,
 }
@@ -59,10 +63,10 @@ fn group_of(space: Space) -> Group
         Space::Input => Group::Input,
         Space::Output => Group::Output,
         Space::Device => Group::Device,
-        Space::Noise => Group::Other,
+        Space::Noise => Group::Noise,
         Space::Spec => Group::Spec,
         Space::Emu => Group::Emu,
-        Space::Copy => Group::Other,
+        Space::Copy => Group::Copy,
         Space::Taken => Group::Other,
     }
 }
@@ -88,6 +92,17 @@ pub fn find(group: Group, name: &[u8], names: &[Named]) -> Option<Seen>
         }
     }
     found
+}
+
+/// The word of a group that a tree names.
+pub fn seen_of(group: Group, tree: &Tree, names: &[Named]) -> Result<Seen, LangFault>
+    ensures { Gives result (seen_of group tree.now names.now) }
+{
+    let name = symbol_of(tree)?;
+    match find(group, name, names) {
+        Some(seen) => Ok(seen),
+        None => Err(fault(place_of(tree), LangWhy::UnknownName)),
+    }
 }
 
 /// The word, where it is one that a statement may write: of a field or a local.
@@ -343,6 +358,26 @@ pub fn declare_fields(
             number: field.first,
         };
         declare_one(alloc, field.name.as_slice(), slot, field.width, names)?;
+    }
+    Ok(())
+}
+
+/// Brings cells into scope whose words are those of a space, by their first words.
+pub fn declare_words(
+    alloc: Global,
+    space: Space,
+    cells: &[Cell],
+    names: &mut Items<Named>,
+) -> Result<(), AllocError>
+    ensures { OnOk result (names.new ≡ names.old ++ word_names space cells.now) }
+{
+    for cell in cells {
+        let slot = Slot {
+            space,
+            number: cell.first,
+        };
+        let name = cell.name.as_slice();
+        declare_line(alloc, name, cell.number, slot, cell.width, names)?;
     }
     Ok(())
 }

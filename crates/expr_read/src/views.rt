@@ -71,7 +71,8 @@ pub fn parts_of(tree: &Tree) -> Result<&[Tree], LangFault>
     }
 }
 
-fn is_symbol(tree: &Tree, word: &[u8]) -> bool
+/// Is the tree this symbol?
+pub fn is_symbol(tree: &Tree, word: &[u8]) -> bool
     ensures { result ≡ is_symbol word.now tree.now }
 {
     match tree {

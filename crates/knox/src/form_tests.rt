@@ -48,7 +48,7 @@ const CIRCUITS: [&[u8]; 16] = [
 ];
 
 /// Edits that leave the form.
-const OUTSIDE: [Edit; 36] = [
+const OUTSIDE: [Edit; 37] = [
     (Which::S, b"secret 4 0)", b"secret 4 16)"),
     (Which::S, b"secret 4 0)", b"secret 4 0) (field x 9 0)"),
     (Which::S, b"secret 4 0)", b"secret 4 0) (field secret 4 0)"),
@@ -61,7 +61,7 @@ const OUTSIDE: [Edit; 36] = [
     (Which::S, b"(result #b1)", b""),
     (Which::S, b"(assign secret v)", b"(assign v v)"),
     (Which::S, b"(assign secret v)", b"(assign secret w)"),
-    (Which::S, b"(assign secret v)", b"(if #b1 () ())"),
+    (Which::S, b"(assign secret v)", b"(while #b0 0)"),
     (
         Which::S,
         b"(op check",
@@ -85,17 +85,27 @@ const OUTSIDE: [Edit; 36] = [
     (
         Which::D,
         b"(persistent secret)",
-        b"(persistent secret) (idle)",
+        b"(persistent secret) (idle (cmd 4))",
     ),
     (
         Which::D,
         b"(persistent secret)",
         b"(persistent secret) (call set (result #b1))",
     ),
+    // A driver that drives: worlds with a host are not built yet.
+    (
+        Which::D,
+        b"(persistent secret)",
+        b"(persistent secret) (call set (result #b1)) (call check (result #b1))",
+    ),
     (Which::E, b"(field ok 1 0)", b"(copy) (field ok 1 0)"),
     (Which::E, b"(outputs (ok ok))", b"(outputs (ok ok) (ok ok))"),
     (Which::E, b"(outputs (ok ok))", b"(outputs (no ok))"),
-    (Which::E, b"(outputs (ok ok))", b"(power) (outputs (ok ok))"),
+    (
+        Which::E,
+        b"(outputs (ok ok))",
+        b"(power (assign ok #b1)) (outputs (ok ok))",
+    ),
     (Which::E, b"(local q 1)", b"(local q 1) (local q 1)"),
     (
         Which::E,
@@ -128,7 +138,7 @@ const OUTSIDE: [Edit; 36] = [
 ];
 
 /// Edits after which the texts say the same.
-const INSIDE: [Edit; 14] = [
+const INSIDE: [Edit; 17] = [
     (Which::C, b"1 sort bitvec 1\n", b"1 sort bitvec 1\r\n"),
     (
         Which::C,
@@ -140,8 +150,19 @@ const INSIDE: [Edit; 14] = [
     (Which::S, b"(spec ", b"; a store\r\n(spec;\n"),
     (Which::S, b"secret 4 0)", b"secret #x4 #b000)"),
     (Which::S, b"(result #b1)", b"(result (bv 1 001))"),
+    (
+        Which::S,
+        b"(assign secret v)",
+        b"(local x 4) (assign x v) (if #b1 ((assign secret x)) ())",
+    ),
     (Which::D, b"(persistent secret)", b"(persistent @10)"),
+    (
+        Which::D,
+        b"(persistent secret)",
+        b"(persistent secret) (idle (cmd 1))",
+    ),
     (Which::E, b"(ok ok)", b"(@21 ok)"),
+    (Which::E, b"(outputs (ok ok))", b"(power) (outputs (ok ok))"),
     (Which::E, b"set (in data)", b"set (in @9)"),
     (Which::E, b"(assign ok r)", b"(assign ok r) ; the last\n"),
     (Which::H, b"(step 1)", b"(step #x01)"),

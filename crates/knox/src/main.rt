@@ -10,6 +10,10 @@ mod delivery;
 #[cfg(test)]
 mod devices;
 #[cfg(test)]
+mod driver_tests;
+#[cfg(test)]
+mod emulator_tests;
+#[cfg(test)]
 mod form_tests;
 mod judging;
 mod outcome;

@@ -82,26 +82,28 @@ at-end at (b ∷ bytes) next e none = absurd (not-both (is_some next) (ap is_som
 same-circuit : (o : Option Circuit) (x y : Circuit) → o ≡ Some x → o ≡ Some y → x ≡ y
 same-circuit o x y e f = cc
 
--- what four texts mean is one device: the driver over the circuit that was read
-pub driver-read : (c s d e : Bytes) (circuit : Circuit) (spec : SpecParts) (driver : DriverParts) (emulator : EmuParts) (x : Circuit) → MeansDevice c s d e circuit spec driver emulator → circuit_of c ≡ Some x → Reads (driver_text x) d driver
-driver-read c s d e circuit spec driver emulator x m is =
-    subst (λ k. Reads (driver_text k) d driver) (same-circuit (circuit_of c) circuit x m.circuit_read is) m.driver_read
+-- what four texts mean is one device: the driver and the emulator over the circuit and the specification that were read
+pub driver-read : (c s d e : Bytes) (circuit : Circuit) (spec : SpecParts) (driver : DriverParts) (emulator : EmuParts) (x : Circuit) (y : SpecParts) → OneMeaning →
+    MeansDevice c s d e circuit spec driver emulator → circuit_of c ≡ Some x → Reads spec_text s y → Reads (driver_text x y) d driver
+driver-read c s d e circuit spec driver emulator x y one m is read =
+    subst (λ k. Reads (driver_text x k) d driver) (reads-one spec_text s spec y one m.spec_read read)
+    (subst (λ k. Reads (driver_text k spec) d driver) (same-circuit (circuit_of c) circuit x m.circuit_read is) m.driver_read)
 
--- the emulator over the circuit and the specification that were read
-pub emulator-read : (c s d e : Bytes) (circuit : Circuit) (spec : SpecParts) (driver : DriverParts) (emulator : EmuParts) (x : Circuit) (y : SpecParts) → OneMeaning →
-    MeansDevice c s d e circuit spec driver emulator → circuit_of c ≡ Some x → Reads spec_text s y → Reads (emulator_text x y) e emulator
-emulator-read c s d e circuit spec driver emulator x y one m is read =
-    subst (λ k. Reads (emulator_text x k) e emulator) (reads-one spec_text s spec y one m.spec_read read)
-    (subst (λ k. Reads (emulator_text k spec) e emulator) (same-circuit (circuit_of c) circuit x m.circuit_read is) m.emulator_read)
+pub emulator-read : (c s d e : Bytes) (circuit : Circuit) (spec : SpecParts) (driver : DriverParts) (emulator : EmuParts) (x : Circuit) (y : SpecParts) (z : DriverParts) → OneMeaning →
+    MeansDevice c s d e circuit spec driver emulator → circuit_of c ≡ Some x → Reads spec_text s y → Reads (driver_text x y) d z → Reads (emulator_text x y z) e emulator
+emulator-read c s d e circuit spec driver emulator x y z one m is of_spec of_driver =
+    subst (λ k. Reads (emulator_text x y k) e emulator) (reads-one (driver_text x y) d driver z one (driver-read c s d e circuit spec driver emulator x y one m is of_spec) of_driver)
+    (subst (λ k. Reads (emulator_text x k driver) e emulator) (reads-one spec_text s spec y one m.spec_read of_spec)
+    (subst (λ k. Reads (emulator_text k spec driver) e emulator) (same-circuit (circuit_of c) circuit x m.circuit_read is) m.emulator_read))
 
 -- and they fit each other
 pub read-fit : (c s d e : Bytes) (circuit : Circuit) (spec : SpecParts) (driver : DriverParts) (emulator : EmuParts) (x : Circuit) (y : SpecParts) (z : DriverParts) (w : EmuParts) → OneMeaning →
-    MeansDevice c s d e circuit spec driver emulator → circuit_of c ≡ Some x → Reads spec_text s y → Reads (driver_text x) d z → Reads (emulator_text x y) e w → fits_device x y z w ≡ true
+    MeansDevice c s d e circuit spec driver emulator → circuit_of c ≡ Some x → Reads spec_text s y → Reads (driver_text x y) d z → Reads (emulator_text x y z) e w → fits_device x y z w ≡ true
 read-fit c s d e circuit spec driver emulator x y z w one m is of_spec of_driver of_emulator =
     let circuits = same-circuit (circuit_of c) circuit x m.circuit_read is in
     let specs = reads-one spec_text s spec y one m.spec_read of_spec in
-    let drivers = reads-one (driver_text x) d driver z one (driver-read c s d e circuit spec driver emulator x m is) of_driver in
-    let emulators = reads-one (emulator_text x y) e emulator w one (emulator-read c s d e circuit spec driver emulator x y one m is of_spec) of_emulator in
+    let drivers = reads-one (driver_text x y) d driver z one (driver-read c s d e circuit spec driver emulator x y one m is of_spec) of_driver in
+    let emulators = reads-one (emulator_text x y z) e emulator w one (emulator-read c s d e circuit spec driver emulator x y z one m is of_spec of_driver) of_emulator in
     subst (λ k. fits_device x y z k ≡ true) emulators
     (subst (λ k. fits_device x y k emulator ≡ true) drivers
     (subst (λ k. fits_device x k driver emulator ≡ true) specs
@@ -114,8 +116,8 @@ script-read c s d e h p x y z w one f n =
     let m = f.meant.device in
     let circuits = same-circuit (circuit_of c) p.circuit x m.circuit_read n.circuit_read in
     let specs = reads-one spec_text s p.spec y one m.spec_read n.spec_read in
-    let drivers = reads-one (driver_text x) d p.driver z one (driver-read c s d e p.circuit p.spec p.driver p.emulator x m n.circuit_read) n.driver_read in
-    let emulators = reads-one (emulator_text x y) e p.emulator w one (emulator-read c s d e p.circuit p.spec p.driver p.emulator x y one m n.circuit_read n.spec_read) n.emulator_read in
+    let drivers = reads-one (driver_text x y) d p.driver z one (driver-read c s d e p.circuit p.spec p.driver p.emulator x y one m n.circuit_read n.spec_read) n.driver_read in
+    let emulators = reads-one (emulator_text x y z) e p.emulator w one (emulator-read c s d e p.circuit p.spec p.driver p.emulator x y z one m n.circuit_read n.spec_read n.driver_read) n.emulator_read in
     of-same x y z w circuits specs drivers emulators
   where
     Said : Circuit → SpecParts → DriverParts → EmuParts → Type 0

@@ -28,8 +28,8 @@ pub record Reads {A F : Type 0} (reading : Place → List Tree → Result A F) (
 pub record MeansDevice (c s d e : Bytes) (circuit : Circuit) (spec : SpecParts) (driver : DriverParts) (emulator : EmuParts) : Type 0 where
   pub circuit_read : circuit_of c ≡ Some circuit
   pub spec_read : Reads spec_text s spec
-  pub driver_read : Reads (driver_text circuit) d driver
-  pub emulator_read : Reads (emulator_text circuit spec) e emulator
+  pub driver_read : Reads (driver_text circuit spec) d driver
+  pub emulator_read : Reads (emulator_text circuit spec driver) e emulator
   pub fit : fits_device circuit spec driver emulator ≡ true
 
 -- the parts that five texts mean

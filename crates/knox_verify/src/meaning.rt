@@ -77,7 +77,7 @@ fn spec_of(alloc: Global, s: &[u8]) -> Result<SpecProgram, VerifyFault>
     Ok(spec)
 }
 
-/// The driver that a text means for a circuit.
+/// The driver that a text means for a circuit and a specification.
 fn driver_of(
     alloc: Global,
     d: &[u8],
@@ -85,8 +85,8 @@ fn driver_of(
     spec: &SpecProgram,
 ) -> Result<DriverProgram, VerifyFault>
     requires { length d.now ≤ 67108864 }
-    ensures meant { IfOk result (λ driver. Reads (driver_text circuit.now) d.now driver) }
-    ensures only { (p : DriverParts) → Reads (driver_text circuit.now) d.now p → IfErr result (λ f. f ≡ Memory) }
+    ensures meant { IfOk result (λ driver. Reads (driver_text circuit.now spec.now) d.now driver) }
+    ensures only { (p : DriverParts) → Reads (driver_text circuit.now spec.now) d.now p → IfErr result (λ f. f ≡ Memory) }
     ensures fault { IfErr result IsNoText }
 {
     knox_sexpr::one_meaning();
@@ -104,8 +104,8 @@ fn emulator_of(
     driver: &DriverProgram,
 ) -> Result<EmuProgram, VerifyFault>
     requires { length e.now ≤ 67108864 }
-    ensures meant { IfOk result (λ emulator. Reads (emulator_text circuit.now spec.now) e.now emulator) }
-    ensures only { (p : EmuParts) → Reads (emulator_text circuit.now spec.now) e.now p → IfErr result (λ f. f ≡ Memory) }
+    ensures meant { IfOk result (λ emulator. Reads (emulator_text circuit.now spec.now driver.now) e.now emulator) }
+    ensures only { (p : EmuParts) → Reads (emulator_text circuit.now spec.now driver.now) e.now p → IfErr result (λ f. f ≡ Memory) }
     ensures fault { IfErr result IsNoText }
 {
     knox_sexpr::one_meaning();

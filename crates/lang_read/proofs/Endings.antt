@@ -1,7 +1,7 @@
 -- The last of a list and those before it.
 use Rattle.std.proofs.Common.{◌≡◌, ℕ, suc, ◌-◌, ◌≤◌, List, [], ◌∷◌, length, get_or, take, refl, sym, ap, ◌∙◌, arith, Some}
 use Rattle.knox_sexpr.specs.declared.tree.Tree.{Tree}
-use Rattle.lang_read.specs.Specifications.{and_front, cut_last}
+use Rattle.lang_read.specs.Bodies.{and_front, cut_last}
 
 longer : (t : Tree) (ts : List Tree) (k : ℕ) → k ≡ suc (length ts - 1) → take k (t ∷ ts) ≡ t ∷ take (length ts - 1) ts
 longer t ts k e = rw e refl

@@ -1,4 +1,5 @@
+mod Lacking
 mod Endings
 mod Faults
+mod Filled
 mod Parts
-pub mod Shown

@@ -1,34 +1,41 @@
--- Which driver the trees of a text mean: (driver (persistent x ..)), where the list may be left
--- out. Without operations it is for wires alone.
-use Rattle.std.specs.Prelude.{ℕ, suc, ◌==◌, Bool, true, false, if◌then◌else◌, List, [], ◌∷◌, map, reverse, codes, Option, Some, None, Result, Ok}
+-- Which driver the trees of a text mean: (driver (persistent x ..) (idle (x n) ..) (call op (local
+-- x w) .. stmt .. (result e)) ..), where the first two may be left out, and calls stand in any
+-- order. Each operation has one call; a text without any is, for now, one for wires alone.
+use Rattle.std.specs.Prelude.{ℕ, suc, ◌==◌, Bool, true, false, if◌then◌else◌, List, [], ◌∷◌, map, reverse, codes, Result, Ok}
 use Rattle.knox_text.specs.declared.place.Place.{Place}
 use Rattle.knox_sexpr.specs.declared.tree.Tree.{Tree}
-use Rattle.knox_words.specs.Bits.{Bits, word_or}
+use Rattle.knox_words.specs.Bits.{Bits, bits, is_word, word_or}
 use Rattle.knox_circuit.specs.declared.circuit.Port.{Port}
 use Rattle.knox_circuit.specs.declared.circuit.Cell.{Cell}
 use Rattle.knox_circuit.specs.Ports.{inputs_of, outputs_of}
 use Rattle.knox_circuit.specs.Circuit.{Circuit, cells_of}
+use Rattle.knox_lang.specs.declared.expr.Space.TheVariants.{Input, Output}
+use Rattle.knox_lang.specs.declared.parts.OpHead.{OpHead}
+use Rattle.knox_lang.specs.declared.parts.Body.{Body}
+use Rattle.knox_lang.specs.declared.parts.SpecParts.{SpecParts}
 use Rattle.knox_lang.specs.declared.parts.DriverParts.{DriverParts}
 use Rattle.knox_lang.specs.WellFormed.{driver_fits}
-use Rattle.expr_read.specs.declared.faults.LangWhy.TheVariants.{UnknownName, Twice, Width, Missing}
+use Rattle.expr_read.specs.declared.faults.LangWhy.TheVariants.{Form, Twice, Width, Missing}
 use Rattle.expr_read.specs.declared.faults.LangFault.{LangFault}
 use Rattle.expr_read.specs.declared.names.Group.TheVariants.{Device}
+use Rattle.expr_read.specs.declared.names.Group.TheVariants as groups
 use Rattle.expr_read.specs.declared.names.Named.{Named}
 use Rattle.expr_read.specs.declared.names.Seen.{Seen}
-use Rattle.expr_read.specs.Views.{◌>>=◌, fails, place_of, symbol_of, behind_head, no_more, each}
-use Rattle.expr_read.specs.Names.{found, cell_names, and_last}
+use Rattle.expr_read.specs.Views.{◌>>=◌, fails, place_of, number_of, parts_of, behind_head, no_more, each}
+use Rattle.expr_read.specs.Names.{seen_of, cell_names, port_names, and_last}
+use Rattle.lang_read.specs.declared.statement.Home.TheVariants.{Driver}
+use Rattle.lang_read.specs.Entries.{form_trees, behind_form, new_entry, filled}
+use Rattle.lang_read.specs.Calls.{calls_of, bodies_of, all_called, has_call}
+
+-- ---- (persistent x ..)
 
 abbrev pub is_among : ℕ → List ℕ → Bool
 is_among k [] = false
 is_among k (n ∷ ns) = if n == k then true else is_among k ns
 
 -- the number of the cell that a tree names
-abbrev pub cell_at : Place → Option Seen → Result ℕ LangFault
-cell_at at None = fails at UnknownName
-cell_at at (Some s) = Ok s.slot.number
-
 abbrev pub cell_of : List Named → Tree → Result ℕ LangFault
-cell_of names t = symbol_of t >>= λ name. cell_at (place_of t) (found Device name None names)
+cell_of names t = seen_of Device t names >>= λ s. Ok s.slot.number
 
 -- a cell that none before it is
 abbrev pub new_cell : List Named → List ℕ → Tree → Result ℕ LangFault
@@ -49,41 +56,82 @@ keep_from k (c ∷ cs) kept = is_among k kept ∷ keep_from (suc k) cs kept
 abbrev pub persistent : List Cell → List Tree → Result (List Bool) LangFault
 persistent cells ts = named_cells (cell_names 0 cells) ts >>= λ kept. Ok (keep_from 0 cells kept)
 
-abbrev pub listed : List Cell → Tree → Result (List Bool) LangFault
-listed cells t = behind_head (codes "persistent") t >>= λ names. persistent cells names
-
 abbrev pub keep_of : List Cell → List Tree → Result (List Bool) LangFault
-keep_of cells [] = persistent cells []
-keep_of cells (t ∷ ts) = do
-  keep ← listed cells t
-  done ← no_more ts
-  Ok keep
+keep_of cells ts = form_trees (codes "persistent") ts >>= λ names. persistent cells names
 
--- inputs idle at 0
-abbrev pub idle_of : List Port → List Bits
-idle_of ps = map (λ (p : Port). word_or p.width 0) ps
+-- ---- (idle (x n) ..)
+
+-- the idle word of an input, and the input's number
+abbrev pub idle_word : Seen → Place → ℕ → Result (ℕ × Bits) LangFault
+idle_word s at n = if is_word (bits s.width n) then Ok (s.slot.number, bits s.width n) else fails at Width
+
+abbrev pub idled : List Named → Place → List (ℕ × Bits) → Tree → Tree → Result (ℕ × Bits) LangFault
+idled inputs at before x n = do
+  s ← new_entry groups.Input inputs at before x
+  value ← number_of n
+  idle_word s (place_of n) value
+
+abbrev pub idle_in : List Named → Place → List (ℕ × Bits) → List Tree → Result (ℕ × Bits) LangFault
+idle_in inputs at before (x ∷ n ∷ []) = idled inputs at before x n
+idle_in inputs at before ts = fails at Form
+
+abbrev pub idle_entry : List Named → List (ℕ × Bits) → Tree → Result (ℕ × Bits) LangFault
+idle_entry inputs before t = parts_of t >>= λ ts. idle_in inputs (place_of t) before ts
+
+abbrev pub idle_entries : List Named → List Tree → Result (List (ℕ × Bits)) LangFault
+idle_entries inputs ts = each (idle_entry inputs) and_last [] ts
+
+abbrev pub zero_words : List Port → List Bits
+zero_words ps = map (λ (p : Port). word_or p.width 0) ps
+
+-- an input without an entry idles at 0
+abbrev pub idle_of : List Port → List Tree → Result (List Bits) LangFault
+idle_of inputs ts = do
+  trees ← form_trees (codes "idle") ts
+  es ← idle_entries (port_names Input 0 inputs) trees
+  Ok (filled es (zero_words inputs))
+
+-- ---- the driver
+
+-- the operations of a driver: those of the specification, and for now none where it calls none
+abbrev pub driven : List OpHead → List Tree → List OpHead
+driven ops ts = if has_call ts then ops else []
+
+-- the bodies of a driver's calls, which set inputs and see outputs
+abbrev pub bodies : Circuit → List OpHead → List Tree → Result (List Body) LangFault
+bodies c ops ts =
+    calls_of (Driver (port_names Input 0 (inputs_of (reverse c.lines)))) ops (port_names Output 0 (outputs_of (reverse c.lines))) ts >>= λ es. Ok (bodies_of ops es)
 
 abbrev pub widths_of : List Port → List ℕ
 widths_of ps = map (λ (p : Port). p.width) ps
 
-abbrev pub wires : Circuit → List Bool → DriverParts
-wires c keep = record { idle = idle_of (inputs_of (reverse c.lines)); keep = keep; outs = widths_of (outputs_of (reverse c.lines)); funs = []; ops = []; bodies = [] }
+abbrev pub together : Circuit → List Bool → List Bits → List OpHead → List Body → DriverParts
+together c keep idle ops bs = record { idle = idle; keep = keep; outs = widths_of (outputs_of (reverse c.lines)); funs = []; ops = ops; bodies = bs }
+
+-- what stands in a driver's list
+abbrev pub driver_in : Circuit → List OpHead → List Tree → Result DriverParts LangFault
+driver_in c ops ts = do
+  keep ← keep_of (cells_of c.lines) ts
+  idle ← idle_of (inputs_of (reverse c.lines)) (behind_form (codes "persistent") ts)
+  bs ← bodies c ops (behind_form (codes "idle") (behind_form (codes "persistent") ts))
+  Ok (together c keep idle ops bs)
+
+-- the same, whose list is at a place: a call that is missing is a fault of the whole list
+abbrev pub driver_parts : Circuit → Place → List OpHead → List Tree → Result DriverParts LangFault
+driver_parts c at ops ts = if all_called ops ts then driver_in c ops ts else fails at Missing
 
 abbrev pub made : Place → DriverParts → Result DriverParts LangFault
 made at p = if driver_fits p then Ok p else fails at Width
 
 -- the driver of a tree, where other trees follow
-abbrev pub keep_in : List Cell → Tree → List Tree → Result (List Bool) LangFault
-keep_in cells t more = do
-  parts ← behind_head (codes "driver") t
-  keep ← keep_of cells parts
+abbrev pub driver_of : Circuit → SpecParts → Tree → List Tree → Result DriverParts LangFault
+driver_of c s t more = do
+  ts ← behind_head (codes "driver") t
+  parts ← driver_parts c (place_of t) (driven s.ops ts) ts
   done ← no_more more
-  Ok keep
-
-abbrev pub driver_of : Circuit → Tree → List Tree → Result DriverParts LangFault
-driver_of c t more = keep_in (cells_of c.lines) t more >>= λ keep. made (place_of t) (wires c keep)
+  made (place_of t) parts
 
 -- the driver of the trees of a text that ends at a place
-abbrev pub driver_text : Circuit → Place → List Tree → Result DriverParts LangFault
-driver_text c end [] = fails end Missing
-driver_text c end (t ∷ ts) = driver_of c t ts
+abbrev pub driver_text : Circuit → SpecParts → Place → List Tree → Result DriverParts LangFault
+driver_text c s end [] = fails end Missing
+driver_text c s end (t ∷ ts) = driver_of c s t ts

@@ -1,7 +1,7 @@
--- Which specification the trees of a text mean: (spec (field x w n) .. (op x ((x w) ..) w (assign x
--- e) .. (result e)) ..), or the first fault. A fault that stands at a list comes before those
+-- Which specification the trees of a text mean: (spec (field x w n) .. (op x ((x w) ..) w (local x
+-- w) .. stmt .. (result e)) ..), or the first fault. A fault that stands at a list comes before those
 -- inside it.
-use Rattle.std.specs.Prelude.{ℕ, nat_lt, if◌then◌else◌, List, [], ◌∷◌, ◌++◌, take, drop, is_some, codes, Option, Some, None, Result, Ok, Err}
+use Rattle.std.specs.Prelude.{ℕ, if◌then◌else◌, List, [], ◌∷◌, ◌++◌, take, drop, is_some, codes, Option, Some, None, Result, Ok, Err}
 use Rattle.knox_text.specs.declared.place.Place.{Place}
 use Rattle.knox_sexpr.specs.declared.tree.Tree.{Tree}
 use Rattle.knox_lang.specs.declared.expr.Space.TheVariants.{Own, Arg}
@@ -12,42 +12,16 @@ use Rattle.knox_lang.specs.WellFormed.{spec_fits}
 use Rattle.expr_read.specs.declared.faults.LangWhy.{LangWhy}
 use Rattle.expr_read.specs.declared.faults.LangWhy.TheVariants.{Form, Twice, Width, Bound, Missing, Memory}
 use Rattle.expr_read.specs.declared.faults.LangFault.{LangFault}
-use Rattle.expr_read.specs.declared.expression.Typed.{Typed}
 use Rattle.expr_read.specs.declared.fields.Fields.{Fields}
 use Rattle.expr_read.specs.declared.names.Named.{Named}
 use Rattle.expr_read.specs.Views.{◌>>=◌, fails, place_of, width_of, symbol_of, parts_of, is_headed, behind_head, headed_count, no_more, each}
 use Rattle.expr_read.specs.Names.{op_number, arguments, and_last, numbered, field_names}
 use Rattle.expr_read.specs.Fields.{fields_of}
-use Rattle.expr_read.specs.Expressions.{dearer, expr_of_width}
-use Rattle.lang_read.specs.declared.statement.Home.TheVariants.{Operation}
-use Rattle.lang_read.specs.declared.statement.Steps.{Steps}
+use Rattle.lang_read.specs.declared.statement.Home.TheVariants.{Plain}
 use Rattle.lang_read.specs.declared.spec.Nameless.{Nameless}
 use Rattle.lang_read.specs.declared.spec.OpParts.{OpParts}
 use Rattle.lang_read.specs.declared.spec.OpList.{OpList}
-use Rattle.lang_read.specs.Statements.{block_of}
-
--- ---- bodies
-
--- the expression of (result e), of the width that is wanted
-abbrev pub result_in : Place → ℕ → List Named → List Tree → Result Typed LangFault
-result_in at w names (head ∷ e ∷ []) = expr_of_width e w names
-result_in at w names ts = fails at Form
-
-abbrev pub result_of : Tree → ℕ → List Named → Result Typed LangFault
-result_of t w names = parts_of t >>= λ ts. result_in (place_of t) w names ts
-
--- a body, if it isn't dearer than 1,000,000
-abbrev pub bounded : Place → Steps → Typed → Result Body LangFault
-bounded at steps value =
-    if nat_lt 1000000 (dearer steps.cost value.cost) then fails at Bound
-    else Ok (record { locals = []; stmts = steps.stmts; result = Some value.expr })
-
--- the body of an operation whose list is at the place
-abbrev pub op_body : Place → List Named → ℕ → List Tree → Tree → Result Body LangFault
-op_body at names w ts last = do
-  steps ← block_of Operation ts names []
-  value ← result_of last w names
-  bounded at steps value
+use Rattle.lang_read.specs.Bodies.{replying_body, cut_last}
 
 -- ---- operations
 
@@ -59,7 +33,7 @@ abbrev pub nameless_op : Place → List Named → Tree → Tree → List Tree �
 nameless_op at fields args w ts last = do
   pairs ← args_of args
   width ← width_of w
-  body ← op_body at (fields ++ numbered Arg 0 pairs) width ts last
+  body ← replying_body Plain 1000000 at (fields ++ numbered Arg 0 pairs) width ts last
   Ok (record { args = pairs; result = width; body = body })
 
 -- a name that no operation before it has
@@ -85,15 +59,6 @@ earlier Memory name f = f
 earlier Bound name f = f
 earlier why (Ok n) f = f
 earlier why (Err e) f = e
-
--- the trees before the last one, and the last one
-abbrev pub and_front : Tree → Option (List Tree × Tree) → Option (List Tree × Tree)
-and_front t None = Some ([], t)
-and_front t (Some p) = Some (t ∷ p.0, p.1)
-
-abbrev pub cut_last : List Tree → Option (List Tree × Tree)
-cut_last [] = None
-cut_last (t ∷ ts) = and_front t (cut_last ts)
 
 abbrev pub op_ending : Place → List OpHead → List Named → Tree → Tree → Tree → Option (List Tree × Tree) → Result OpParts LangFault
 op_ending at known fields x args w None = fails at Form

@@ -1,31 +1,25 @@
-//! Drivers: `(driver (persistent x ..))`, where the list may be left out.
+//! Drivers: `(driver (persistent x ..) (idle (x n) ..) (call op body (result e)) ..)`, where the first
+//! two may be left out.
 ghost use Rattle.std.specs.Prelude.{◌≡◌, IfOk};
-ghost use Rattle.expr_read.specs.Views.{Gives};
-ghost use Rattle.lang_read.specs.Drivers.{is_among, cell_of, new_cell, named_cells, keep_from, persistent, listed, keep_of, idle_of, widths_of, wires, made, keep_in, driver_of, driver_text};
 ghost use Rattle.knox_circuit.specs.Circuit.{cells_of};
+ghost use Rattle.expr_read.specs.Views.{Gives};
+ghost use Rattle.lang_read.specs.Drivers.{is_among, cell_of, new_cell, named_cells, keep_from, persistent, keep_of, idle_word, idled, idle_in, idle_entry, idle_entries, zero_words, idle_of, driven, bodies, widths_of, together, driver_in, driver_parts, made, driver_of, driver_text};
 
+use crate::calls::{all_called, bodies_of, calls_of, has_call};
+use crate::entries::{behind_form, filled, form_trees, new_entry};
+use crate::heads::copied_ops;
+use crate::statement::Home;
 use expr_read::{
-    Group, LangFault, LangWhy, Named, behind_head, declare_cells, fault, find, no_more, place_of,
-    symbol_of,
+    Group, LangFault, LangWhy, Named, Seen, behind_head, declare_cells, declare_ports, fault,
+    no_more, number_of, parts_of, place_of, seen_of,
 };
 use knox_circuit::{Cell, Circuit, Port};
-use knox_lang::{DriverParts, DriverProgram, SpecProgram};
+use knox_lang::{Body, DriverParts, DriverProgram, OpHead, Space, SpecProgram};
 use knox_sexpr::Tree;
 use knox_text::Place;
-use knox_words::{Words, word_or};
+use knox_words::{Word, Words, word_or};
 use sqlite_items::Items;
 use std::alloc::{AllocError, Global};
-
-/// The words of inputs that idle at 0.
-fn idle_of(alloc: Global, inputs: &[Port]) -> Result<Words, AllocError>
-    ensures { IfOk result (λ idle. idle ≡ idle_of inputs.now) }
-{
-    let mut idle = Words::new(alloc);
-    for input in inputs {
-        idle.push(word_or(input.width, 0))?;
-    }
-    Ok(idle)
-}
 
 /// The widths of inputs or outputs.
 pub(crate) fn widths_of(alloc: Global, ports: &[Port]) -> Result<Items<u8>, AllocError>
@@ -53,11 +47,8 @@ fn is_among(number: u32, numbers: &[u32]) -> bool
 fn cell_of(tree: &Tree, names: &[Named]) -> Result<u32, LangFault>
     ensures { Gives result (cell_of names.now tree.now) }
 {
-    let name = symbol_of(tree)?;
-    match find(Group::Device, name, names) {
-        Some(seen) => Ok(seen.slot.number),
-        None => Err(fault(place_of(tree), LangWhy::UnknownName)),
-    }
+    let seen = seen_of(Group::Device, tree, names)?;
+    Ok(seen.slot.number)
 }
 
 /// The number of the cell that a tree names, which none before it names.
@@ -108,40 +99,190 @@ fn persistent(alloc: Global, trees: &[Tree], cells: &[Cell]) -> Result<Items<boo
     Ok(keep)
 }
 
-/// Which cells are persistent by a form of a driver.
-fn listed(alloc: Global, tree: &Tree, cells: &[Cell]) -> Result<Items<bool>, LangFault>
-    ensures { Gives result (listed cells.now tree.now) }
-{
-    let names = behind_head(tree, b"persistent")?;
-    persistent(alloc, names, cells)
-}
-
-/// Which cells are persistent by the forms of a driver.
+/// Which cells are persistent by the form at the front.
 fn keep_of(alloc: Global, parts: &[Tree], cells: &[Cell]) -> Result<Items<bool>, LangFault>
     ensures { Gives result (keep_of cells.now parts.now) }
 {
-    match parts.split_first() {
-        None => persistent(alloc, &[], cells),
-        Some((tree, rest)) => {
-            let keep = listed(alloc, tree, cells)?;
-            no_more(rest)?;
-            Ok(keep)
-        }
+    let names = form_trees(parts, b"persistent")?;
+    persistent(alloc, names, cells)
+}
+
+/// The idle word of an input, whose number is at the place.
+fn idle_word(seen: Seen, at: Place, value: u128) -> Result<(u32, Word), LangFault>
+    ensures { Gives result (idle_word seen at value) }
+{
+    match Word::new(seen.width, value) {
+        Some(word) => Ok((seen.slot.number, word)),
+        None => Err(fault(at, LangWhy::Width)),
     }
 }
 
-/// The parts of a driver for wires alone, with these persistent cells.
-fn wires(alloc: Global, c: &Circuit, keep: Items<bool>) -> Result<DriverParts, AllocError>
-    ensures { IfOk result (λ parts. parts ≡ wires c.now keep) }
+/// The idle word of the input that a tree names, in an entry at the place.
+fn idled(
+    at: Place,
+    x: &Tree,
+    n: &Tree,
+    inputs: &[Named],
+    before: &[(u32, Word)],
+) -> Result<(u32, Word), LangFault>
+    ensures { Gives result (idled inputs.now at before.now x.now n.now) }
+{
+    let seen = new_entry(Group::Input, at, x, inputs, before)?;
+    let value = number_of(n)?;
+    idle_word(seen, place_of(n), value)
+}
+
+/// The parts of an entry whose list is at the place.
+fn idle_in(
+    at: Place,
+    parts: &[Tree],
+    inputs: &[Named],
+    before: &[(u32, Word)],
+) -> Result<(u32, Word), LangFault>
+    ensures { Gives result (idle_in inputs.now at before.now parts.now) }
+{
+    match parts {
+        [x, n] => idled(at, x, n, inputs, before),
+        _ => Err(fault(at, LangWhy::Form)),
+    }
+}
+
+/// `(x n)`.
+fn idle_entry(
+    tree: &Tree,
+    inputs: &[Named],
+    before: &[(u32, Word)],
+) -> Result<(u32, Word), LangFault>
+    ensures { Gives result (idle_entry inputs.now before.now tree.now) }
+{
+    let parts = parts_of(tree)?;
+    idle_in(place_of(tree), parts, inputs, before)
+}
+
+/// The entries of an `idle` list.
+fn idle_entries(
+    alloc: Global,
+    trees: &[Tree],
+    inputs: &[Named],
+) -> Result<Items<(u32, Word)>, LangFault>
+    ensures { Gives result (idle_entries inputs.now trees.now) }
+{
+    let mut entries = Items::new(alloc);
+    for tree in trees {
+        let entry = idle_entry(tree, inputs, entries.as_slice())?;
+        entries.push(entry)?;
+    }
+    Ok(entries)
+}
+
+/// The words of inputs that idle at 0.
+fn zero_words(alloc: Global, inputs: &[Port]) -> Result<Items<Word>, AllocError>
+    ensures { IfOk result (λ idle. idle ≡ zero_words inputs.now) }
+{
+    let mut idle = Items::new(alloc);
+    for input in inputs {
+        idle.push(word_or(input.width, 0))?;
+    }
+    Ok(idle)
+}
+
+/// The idle words of inputs, by the `idle` form at the front.
+fn idle_of(alloc: Global, parts: &[Tree], inputs: &[Port]) -> Result<Words, LangFault>
+    ensures { Gives result (idle_of inputs.now parts.now) }
+{
+    let trees = form_trees(parts, b"idle")?;
+    let mut names = Items::new(alloc);
+    declare_ports(alloc, Space::Input, inputs, &mut names)?;
+    let entries = idle_entries(alloc, trees, names.as_slice())?;
+    let zeros = zero_words(alloc, inputs)?;
+    let words = filled(zeros, entries);
+    let mut idle = Words::new(alloc);
+    idle.extend(words.as_slice())?;
+    Ok(idle)
+}
+
+/// The operations of a driver: those of the specification, and for now none where it calls none.
+fn driven(alloc: Global, ops: &[OpHead], parts: &[Tree]) -> Result<Items<OpHead>, AllocError>
+    ensures { IfOk result (λ heads. heads ≡ driven ops.now parts.now) }
+{
+    if has_call(parts) {
+        copied_ops(alloc, ops)
+    } else {
+        Ok(Items::new(alloc))
+    }
+}
+
+/// The bodies of a driver's calls, in the order of the operations.
+fn bodies(
+    alloc: Global,
+    c: &Circuit,
+    ops: &[OpHead],
+    trees: &[Tree],
+) -> Result<Items<Body>, LangFault>
+    ensures { Gives result (bodies c.now ops.now trees.now) }
+{
+    let mut inputs = Items::new(alloc);
+    declare_ports(alloc, Space::Input, c.inputs(), &mut inputs)?;
+    let mut names = Items::new(alloc);
+    declare_ports(alloc, Space::Output, c.outputs_list(), &mut names)?;
+    let home = Home::Driver(inputs);
+    let calls = calls_of(alloc, &home, ops, &mut names, trees)?;
+    let bodies = bodies_of(alloc, ops, calls)?;
+    Ok(bodies)
+}
+
+/// The parts of a driver.
+fn together(
+    alloc: Global,
+    c: &Circuit,
+    keep: Items<bool>,
+    idle: Words,
+    ops: Items<OpHead>,
+    bodies: Items<Body>,
+) -> Result<DriverParts, AllocError>
+    ensures { IfOk result (λ parts. parts ≡ together c.now keep idle ops bodies) }
 {
     Ok(DriverParts {
-        idle: idle_of(alloc, c.inputs())?,
+        idle,
         keep,
         outs: widths_of(alloc, c.outputs_list())?,
         funs: Items::new(alloc),
-        ops: Items::new(alloc),
-        bodies: Items::new(alloc),
+        ops,
+        bodies,
     })
+}
+
+/// What stands in a driver's list, where the driver has these operations.
+fn driver_in(
+    alloc: Global,
+    c: &Circuit,
+    ops: Items<OpHead>,
+    parts: &[Tree],
+) -> Result<DriverParts, LangFault>
+    ensures { Gives result (driver_in c.now ops parts.now) }
+{
+    let keep = keep_of(alloc, parts, c.cells())?;
+    let rest = behind_form(parts, b"persistent");
+    let idle = idle_of(alloc, rest, c.inputs())?;
+    let bodies = bodies(alloc, c, ops.as_slice(), behind_form(rest, b"idle"))?;
+    let parts = together(alloc, c, keep, idle, ops, bodies)?;
+    Ok(parts)
+}
+
+/// What stands in a driver's list at the place: a call that is missing is a fault of the whole list.
+fn driver_parts(
+    alloc: Global,
+    c: &Circuit,
+    at: Place,
+    ops: Items<OpHead>,
+    parts: &[Tree],
+) -> Result<DriverParts, LangFault>
+    ensures { Gives result (driver_parts c.now at ops parts.now) }
+{
+    if !all_called(ops.as_slice(), parts) {
+        return Err(fault(at, LangWhy::Missing));
+    }
+    driver_in(alloc, c, ops, parts)
 }
 
 /// The driver of these parts, whose list is at the place.
@@ -154,49 +295,37 @@ fn made(at: Place, parts: DriverParts) -> Result<DriverProgram, LangFault>
     }
 }
 
-/// Which cells are persistent by a driver's tree, where other trees follow.
-fn keep_in(
-    alloc: Global,
-    tree: &Tree,
-    more: &[Tree],
-    cells: &[Cell],
-) -> Result<Items<bool>, LangFault>
-    ensures { Gives result (keep_in cells.now tree.now more.now) }
-{
-    let parts = behind_head(tree, b"driver")?;
-    let keep = keep_of(alloc, parts, cells)?;
-    no_more(more)?;
-    Ok(keep)
-}
-
 /// The driver of a tree, where other trees follow.
 fn driver_of(
     alloc: Global,
     tree: &Tree,
     more: &[Tree],
     c: &Circuit,
+    s: &SpecProgram,
 ) -> Result<DriverProgram, LangFault>
-    ensures { Gives result (driver_of c.now tree.now more.now) }
+    ensures { Gives result (driver_of c.now s.now tree.now more.now) }
 {
-    let keep = keep_in(alloc, tree, more, c.cells())?;
-    let parts = wires(alloc, c, keep)?;
+    let parts = behind_head(tree, b"driver")?;
+    let ops = driven(alloc, s.ops(), parts)?;
+    let parts = driver_parts(alloc, c, place_of(tree), ops, parts)?;
+    no_more(more)?;
     made(place_of(tree), parts)
 }
 
 /// The driver that the trees of a text mean over a circuit and a specification, where the text
-/// ends at a place. Read today is `persistent` alone, so that the driver has no operations, and is
-/// for wires alone.
+/// ends at a place. Each operation of the specification has one call; a text without any is, for
+/// now, a driver for wires alone, without operations.
 pub fn read_driver(
     alloc: Global,
     trees: &[Tree],
     end: Place,
     c: &Circuit,
-    _s: &SpecProgram,
+    s: &SpecProgram,
 ) -> Result<DriverProgram, LangFault>
-    ensures { Gives result (driver_text c.now end trees.now) }
+    ensures { Gives result (driver_text c.now s.now end trees.now) }
 {
     match trees.split_first() {
-        Some((tree, more)) => driver_of(alloc, tree, more, c),
+        Some((tree, more)) => driver_of(alloc, tree, more, c, s),
         None => Err(fault(end, LangWhy::Missing)),
     }
 }

@@ -1,15 +1,18 @@
-//! Emulators: `(emulator (field x w n) .. (outputs (x e) ..) (tick (local x w) .. stmt ..))`, where
-//! each part may be left out.
-ghost use Rattle.std.specs.Prelude.{◌≡◌, [], IfOk, map, slice_set};
-ghost use Rattle.expr_read.specs.Views.{Gives, Sees};
-ghost use Rattle.lang_read.specs.Emulators.{output_named, is_entered, new_output, alone, entered, entry_in, outputs_entry, entries, shown, entry_trees, behind_outputs, shown_by, empty_body, cell_field, scope, bounded, tick_body, tick_in, tick_of, both_bodies, together, emulator_in, emulator_made, emulator_at, emulator_of, emulator_text};
+//! Emulators: `(emulator (field x w n) .. (power (local x w) .. stmt ..) (outputs (x e) ..) (tick (local
+//! x w) .. stmt ..))`, where each part may be left out.
+ghost use Rattle.std.specs.Prelude.{◌≡◌, IfOk, map};
+ghost use Rattle.expr_read.specs.Views.{Gives};
+ghost use Rattle.lang_read.specs.Emulators.{alone, entered, entry_in, outputs_entry, entries, zero_outputs, shown_by, cell_field, scope, power_scope, power_in, power_of, tick_in, tick_of, all_bodies, outside_of, together, bodies_behind, emulator_in, emulator_made, emulator_at, emulator_of, emulator_text};
 
+use crate::body::{MOST_COST, empty_body, silent_body};
 use crate::driver::widths_of;
-use crate::statement::{Home, MOST_COST, Steps, block};
+use crate::entries::{behind_form, filled, form_trees, new_entry};
+use crate::heads::copied_ops;
+use crate::statement::Home;
 use expr_read::{
-    Fields, Group, LangFault, LangWhy, Named, Seen, behind_head, declare, declare_ports,
-    expr_of_width, fault, field_names, fields_of, find, headed_count, is_headed, locals, no_more,
-    parts_of, place_of, symbol_of,
+    Fields, Group, LangFault, LangWhy, Named, behind_head, declare_ports, declare_words,
+    expr_of_width, fault, field_names, fields_of, headed_count, is_headed, no_more, parts_of,
+    place_of,
 };
 use knox_circuit::{Cell, Circuit, Port};
 use knox_lang::{
@@ -20,44 +23,6 @@ use knox_text::Place;
 use knox_words::word_or;
 use sqlite_items::Items;
 use std::alloc::{AllocError, Global};
-
-fn empty_body(alloc: Global) -> Body
-    ensures { result ≡ empty_body }
-{
-    Body {
-        locals: Items::new(alloc),
-        stmts: Items::new(alloc),
-        result: None,
-    }
-}
-
-fn copied_args(
-    alloc: Global,
-    args: &[(Items<u8>, u8)],
-) -> Result<Items<(Items<u8>, u8)>, AllocError>
-    ensures { IfOk result (λ copy. copy ≡ args.now) }
-{
-    let mut copy = Items::new(alloc);
-    for arg in args {
-        let name = Items::from_slice(alloc, arg.0.as_slice())?;
-        copy.push((name, arg.1))?;
-    }
-    Ok(copy)
-}
-
-/// The heads of the specification's operations once more.
-fn copied_ops(alloc: Global, ops: &[OpHead]) -> Result<Items<OpHead>, AllocError>
-    ensures { IfOk result (λ copy. copy ≡ ops.now) }
-{
-    let mut copy = Items::new(alloc);
-    for op in ops {
-        let name = Items::from_slice(alloc, op.name.as_slice())?;
-        let args = copied_args(alloc, op.args.as_slice())?;
-        let result = op.result;
-        copy.push(OpHead { name, args, result })?;
-    }
-    Ok(copy)
-}
 
 /// The circuit's cells as fields.
 fn cells_of(alloc: Global, cells: &[Cell]) -> Result<Items<Field>, AllocError>
@@ -75,46 +40,6 @@ fn cells_of(alloc: Global, cells: &[Cell]) -> Result<Items<Field>, AllocError>
     Ok(fields)
 }
 
-/// An entry of `outputs`: the number of the output that it names, and its expression.
-#[derive(Drop)]
-struct Entry {
-    output: u32,
-    expr: Expr,
-}
-
-fn is_entered(output: u32, entries: &[Entry]) -> bool
-    ensures { result ≡ is_entered output entries.now }
-{
-    for entry in entries {
-        if entry.output == output {
-            return true;
-        }
-    }
-    false
-}
-
-/// The output that a tree names.
-fn output_named(tree: &Tree, outs: &[Named]) -> Result<Seen, LangFault>
-    ensures { Gives result (output_named outs.now tree.now) }
-{
-    let name = symbol_of(tree)?;
-    match find(Group::Output, name, outs) {
-        Some(seen) => Ok(seen),
-        None => Err(fault(place_of(tree), LangWhy::UnknownName)),
-    }
-}
-
-/// The output that a tree names, which no entry before names.
-fn new_output(tree: &Tree, outs: &[Named], before: &[Entry]) -> Result<Seen, LangFault>
-    ensures { Gives result (new_output outs.now before.now tree.now) }
-{
-    let seen = output_named(tree, outs)?;
-    if is_entered(seen.slot.number, before) {
-        return Err(fault(place_of(tree), LangWhy::Twice));
-    }
-    Ok(seen)
-}
-
 /// An expression that stands in no body.
 fn alone(alloc: Global, tree: &Tree, width: u8, names: &[Named]) -> Result<Expr, LangFault>
     ensures { Gives result (alone tree.now width names.now) }
@@ -126,23 +51,21 @@ fn alone(alloc: Global, tree: &Tree, width: u8, names: &[Named]) -> Result<Expr,
     Ok(value.expr)
 }
 
-/// The entry of an output and its expression.
+/// The output that an entry at the place names, and its expression.
 fn entered(
     alloc: Global,
+    at: Place,
     x: &Tree,
     e: &Tree,
     outs: &[Named],
     names: &[Named],
-    before: &[Entry],
-) -> Result<Entry, LangFault>
-    ensures { Gives result (entered outs.now names.now before.now x.now e.now) }
+    before: &[(u32, Expr)],
+) -> Result<(u32, Expr), LangFault>
+    ensures { Gives result (entered outs.now names.now at before.now x.now e.now) }
 {
-    let seen = new_output(x, outs, before)?;
+    let seen = new_entry(Group::Output, at, x, outs, before)?;
     let expr = alone(alloc, e, seen.width, names)?;
-    Ok(Entry {
-        output: seen.slot.number,
-        expr,
-    })
+    Ok((seen.slot.number, expr))
 }
 
 /// The parts of an entry whose list is at the place.
@@ -152,12 +75,12 @@ fn entry_in(
     parts: &[Tree],
     outs: &[Named],
     names: &[Named],
-    before: &[Entry],
-) -> Result<Entry, LangFault>
+    before: &[(u32, Expr)],
+) -> Result<(u32, Expr), LangFault>
     ensures { Gives result (entry_in outs.now names.now at before.now parts.now) }
 {
     match parts {
-        [x, e] => entered(alloc, x, e, outs, names, before),
+        [x, e] => entered(alloc, at, x, e, outs, names, before),
         _ => Err(fault(at, LangWhy::Form)),
     }
 }
@@ -168,8 +91,8 @@ fn outputs_entry(
     tree: &Tree,
     outs: &[Named],
     names: &[Named],
-    before: &[Entry],
-) -> Result<Entry, LangFault>
+    before: &[(u32, Expr)],
+) -> Result<(u32, Expr), LangFault>
     ensures { Gives result (outputs_entry outs.now names.now before.now tree.now) }
 {
     let parts = parts_of(tree)?;
@@ -182,7 +105,7 @@ fn entries(
     trees: &[Tree],
     outs: &[Named],
     names: &[Named],
-) -> Result<Items<Entry>, LangFault>
+) -> Result<Items<(u32, Expr)>, LangFault>
     ensures { Gives result (entries outs.now names.now trees.now) }
 {
     let mut entries = Items::new(alloc);
@@ -195,56 +118,13 @@ fn entries(
 
 /// Outputs that are all 0.
 fn zero_outputs(alloc: Global, ports: &[Port]) -> Result<Items<Expr>, AllocError>
-    ensures { IfOk result (λ exprs. exprs ≡ shown ports.now []) }
+    ensures { IfOk result (λ exprs. exprs ≡ zero_outputs ports.now) }
 {
     let mut exprs = Items::new(alloc);
     for port in ports {
         exprs.push(Expr::Lit(word_or(port.width, 0)))?;
     }
     Ok(exprs)
-}
-
-/// Gives the output of an entry its expression.
-#[tactic(auto, using(crate::proofs::Shown::past))]
-fn put(exprs: &mut Items<Expr>, entry: Entry)
-    ensures { exprs.new ≡ slice_set exprs.old entry.output entry.expr }
-{
-    let number = entry.output as usize;
-    if number < exprs.len() {
-        exprs.set(number, entry.expr);
-    }
-}
-
-/// The expressions of outputs in line order, by their entries.
-fn shown(alloc: Global, ports: &[Port], entries: Items<Entry>) -> Result<Items<Expr>, AllocError>
-    ensures { IfOk result (λ exprs. exprs ≡ shown ports.now entries) }
-{
-    let mut exprs = zero_outputs(alloc, ports)?;
-    let mut left = entries;
-    while let Some(entry) = left.pop() {
-        put(&mut exprs, entry);
-    }
-    Ok(exprs)
-}
-
-/// The entries of an `outputs` form at the front.
-fn entry_trees(trees: &[Tree]) -> Result<&[Tree], LangFault>
-    ensures { Sees (λ x. x.now) result (entry_trees trees.now) }
-{
-    match trees.split_first() {
-        Some((tree, _)) if is_headed(tree, b"outputs") => behind_head(tree, b"outputs"),
-        _ => Ok(&[]),
-    }
-}
-
-/// What is left behind an `outputs` form at the front.
-fn behind_outputs(trees: &[Tree]) -> &[Tree]
-    ensures { result.now ≡ behind_outputs trees.now }
-{
-    match trees.split_first() {
-        Some((tree, rest)) if is_headed(tree, b"outputs") => rest,
-        _ => trees,
-    }
 }
 
 /// The expressions of all outputs in line order, by the `outputs` form at the front.
@@ -256,12 +136,12 @@ fn shown_by(
 ) -> Result<Items<Expr>, LangFault>
     ensures { Gives result (shown_by names.now ports.now trees.now) }
 {
-    let trees = entry_trees(trees)?;
+    let trees = form_trees(trees, b"outputs")?;
     let mut outs = Items::new(alloc);
     declare_ports(alloc, Space::Output, ports, &mut outs)?;
     let entries = entries(alloc, trees, outs.as_slice(), names)?;
-    let exprs = shown(alloc, ports, entries)?;
-    Ok(exprs)
+    let zeros = zero_outputs(alloc, ports)?;
+    Ok(filled(zeros, entries))
 }
 
 /// The names that `outputs` sees: fields and inputs.
@@ -273,36 +153,32 @@ fn scope(alloc: Global, fields: &[Field], inputs: &[Port]) -> Result<Items<Named
     Ok(names)
 }
 
-/// The body of a `tick` list at the place, with these locals.
-fn bounded(at: Place, locals: Items<(Items<u8>, u8)>, steps: Steps) -> Result<Body, LangFault>
-    ensures { Gives result (bounded at locals steps) }
+/// The names that a power-on sees: fields and words of noise.
+fn power_scope(alloc: Global, fields: &[Field], noise: &[Cell]) -> Result<Items<Named>, AllocError>
+    ensures { IfOk result (λ names. names ≡ power_scope fields.now noise.now) }
 {
-    if steps.cost > MOST_COST {
-        return Err(fault(at, LangWhy::Bound));
-    }
-    Ok(Body {
-        locals,
-        stmts: steps.stmts,
-        result: None,
-    })
+    let mut names = field_names(alloc, fields)?;
+    declare_words(alloc, Space::Noise, noise, &mut names)?;
+    Ok(names)
 }
 
-/// The body of a `tick` list at the place, under the names of fields and inputs.
-fn tick_body(
-    alloc: Global,
-    at: Place,
-    trees: &[Tree],
-    names: Items<Named>,
-    ops: &[OpHead],
-) -> Result<Body, LangFault>
-    ensures { Gives result (tick_body names ops.now at trees.now) }
+/// `(power (local x w) .. stmt ..)`.
+fn power_in(alloc: Global, tree: &Tree, names: Items<Named>) -> Result<Body, LangFault>
+    ensures { Gives result (power_in names tree.now) }
 {
-    let mut names = names;
-    let count = headed_count(trees, b"local");
-    let locals = locals(alloc, &trees[..count])?;
-    declare(alloc, Space::Local, locals.as_slice(), &mut names)?;
-    let steps = block(alloc, Home::Tick, &trees[count..], names.as_slice(), ops)?;
-    bounded(at, locals, steps)
+    let parts = behind_head(tree, b"power")?;
+    let home = Home::Plain;
+    silent_body(alloc, &home, place_of(tree), parts, names)
+}
+
+/// The body of a `power` form, if one stands at the front.
+fn power_of(alloc: Global, trees: &[Tree], names: Items<Named>) -> Result<Body, LangFault>
+    ensures { Gives result (power_of names trees.now) }
+{
+    match trees.split_first() {
+        Some((tree, _)) if is_headed(tree, b"power") => power_in(alloc, tree, names),
+        _ => Ok(empty_body(alloc)),
+    }
 }
 
 /// `(tick (local x w) .. stmt ..)`.
@@ -315,7 +191,8 @@ fn tick_in(
     ensures { Gives result (tick_in names ops.now tree.now) }
 {
     let parts = behind_head(tree, b"tick")?;
-    tick_body(alloc, place_of(tree), parts, names, ops)
+    let home = Home::Emulator(copied_ops(alloc, ops)?);
+    silent_body(alloc, &home, place_of(tree), parts, names)
 }
 
 /// The body of a `tick` form, if there is one.
@@ -337,69 +214,116 @@ fn tick_of(
     }
 }
 
-/// The outputs and the tick of an emulator.
+/// The power-on, the outputs and the tick of an emulator.
 #[derive(Drop)]
 struct Bodies {
+    power: Body,
     outputs: Items<Expr>,
     tick: Body,
 }
 
-/// What stands behind the fields.
-fn both_bodies(
+/// What stands behind the fields, where a power-on sees other names than outputs and tick.
+fn all_bodies(
     alloc: Global,
     trees: &[Tree],
+    powered: Items<Named>,
     names: Items<Named>,
     outs: &[Port],
     ops: &[OpHead],
 ) -> Result<Bodies, LangFault>
-    ensures { Gives result (both_bodies names outs.now ops.now trees.now) }
+    ensures { Gives result (all_bodies powered names outs.now ops.now trees.now) }
 {
-    let outputs = shown_by(alloc, trees, outs, names.as_slice())?;
-    let tick = tick_of(alloc, behind_outputs(trees), names, ops)?;
-    Ok(Bodies { outputs, tick })
-}
-
-/// The parts of an emulator that has no copy of the circuit and does nothing at power-on.
-fn together(
-    alloc: Global,
-    c: &Circuit,
-    s: &SpecProgram,
-    fields: Fields,
-    bodies: Bodies,
-) -> Result<EmuParts, AllocError>
-    ensures { IfOk result (λ parts. parts ≡ together c.now s.now fields bodies) }
-{
-    Ok(EmuParts {
-        fields: fields.fields,
-        init: fields.init,
-        copy: false,
-        ins: widths_of(alloc, c.inputs())?,
-        outs: widths_of(alloc, c.outputs_list())?,
-        noise: Items::new(alloc),
-        cells: cells_of(alloc, c.cells())?,
-        funs: Items::new(alloc),
-        ops: copied_ops(alloc, s.ops())?,
-        power: empty_body(alloc),
-        outputs: bodies.outputs,
-        tick: bodies.tick,
+    let power = power_of(alloc, trees, powered)?;
+    let rest = behind_form(trees, b"power");
+    let outputs = shown_by(alloc, rest, outs, names.as_slice())?;
+    let tick = tick_of(alloc, behind_form(rest, b"outputs"), names, ops)?;
+    Ok(Bodies {
+        power,
+        outputs,
+        tick,
     })
 }
 
-/// What stands in an emulator's list.
+/// What an emulator has of its circuit and its specification.
+#[derive(Drop)]
+struct Outside {
+    ins: Items<u8>,
+    outs: Items<u8>,
+    noise: Items<Field>,
+    cells: Items<Field>,
+    ops: Items<OpHead>,
+}
+
+/// What an emulator has of a circuit and a specification, over the states that have words of noise.
+fn outside_of(
+    alloc: Global,
+    c: &Circuit,
+    s: &SpecProgram,
+    noise: &[Cell],
+) -> Result<Outside, AllocError>
+    ensures { IfOk result (λ out. out ≡ outside_of c.now s.now noise.now) }
+{
+    Ok(Outside {
+        ins: widths_of(alloc, c.inputs())?,
+        outs: widths_of(alloc, c.outputs_list())?,
+        noise: cells_of(alloc, noise)?,
+        cells: cells_of(alloc, c.cells())?,
+        ops: copied_ops(alloc, s.ops())?,
+    })
+}
+
+/// The parts of an emulator that has no copy of the circuit.
+fn together(alloc: Global, outside: Outside, fields: Fields, bodies: Bodies) -> EmuParts
+    ensures { result ≡ together outside fields bodies }
+{
+    EmuParts {
+        fields: fields.fields,
+        init: fields.init,
+        copy: false,
+        ins: outside.ins,
+        outs: outside.outs,
+        noise: outside.noise,
+        cells: outside.cells,
+        funs: Items::new(alloc),
+        ops: outside.ops,
+        power: bodies.power,
+        outputs: bodies.outputs,
+        tick: bodies.tick,
+    }
+}
+
+/// The bodies behind the fields, over the states that have words of noise.
+fn bodies_behind(
+    alloc: Global,
+    trees: &[Tree],
+    c: &Circuit,
+    s: &SpecProgram,
+    noise: &[Cell],
+    fields: &[Field],
+) -> Result<Bodies, LangFault>
+    ensures { Gives result (bodies_behind c.now s.now noise.now fields.now trees.now) }
+{
+    let powered = power_scope(alloc, fields, noise)?;
+    let names = scope(alloc, fields, c.inputs())?;
+    all_bodies(alloc, trees, powered, names, c.outputs_list(), s.ops())
+}
+
+/// What stands in an emulator's list, over the states that have words of noise.
 fn emulator_in(
     alloc: Global,
     parts: &[Tree],
     c: &Circuit,
     s: &SpecProgram,
+    noise: &[Cell],
 ) -> Result<EmuParts, LangFault>
-    ensures { Gives result (emulator_in c.now s.now parts.now) }
+    ensures { Gives result (emulator_in c.now s.now noise.now parts.now) }
 {
+    let outside = outside_of(alloc, c, s, noise)?;
     let count = headed_count(parts, b"field");
     let fields = fields_of(alloc, &parts[..count])?;
-    let names = scope(alloc, fields.fields.as_slice(), c.inputs())?;
-    let bodies = both_bodies(alloc, &parts[count..], names, c.outputs_list(), s.ops())?;
-    let parts = together(alloc, c, s, fields, bodies)?;
-    Ok(parts)
+    let rest = &parts[count..];
+    let bodies = bodies_behind(alloc, rest, c, s, noise, fields.fields.as_slice())?;
+    Ok(together(alloc, outside, fields, bodies))
 }
 
 /// The emulator of these parts, whose list is at the place.
@@ -418,11 +342,13 @@ fn emulator_at(
     tree: &Tree,
     c: &Circuit,
     s: &SpecProgram,
+    d: &DriverProgram,
 ) -> Result<EmuProgram, LangFault>
-    ensures { Gives result (emulator_at c.now s.now tree.now) }
+    ensures { Gives result (emulator_at c.now s.now d.now tree.now) }
 {
     let parts = behind_head(tree, b"emulator")?;
-    let parts = emulator_in(alloc, parts, c, s)?;
+    let noise = c.noise_cells(d.keep())?;
+    let parts = emulator_in(alloc, parts, c, s, noise.as_slice())?;
     emulator_made(place_of(tree), parts)
 }
 
@@ -433,30 +359,31 @@ fn emulator_of(
     more: &[Tree],
     c: &Circuit,
     s: &SpecProgram,
+    d: &DriverProgram,
 ) -> Result<EmuProgram, LangFault>
-    ensures { Gives result (emulator_of c.now s.now tree.now more.now) }
+    ensures { Gives result (emulator_of c.now s.now d.now tree.now more.now) }
 {
-    let emulator = emulator_at(alloc, tree, c, s)?;
+    let emulator = emulator_at(alloc, tree, c, s, d)?;
     no_more(more)?;
     Ok(emulator)
 }
 
 /// The emulator that the trees of a text mean over a circuit, a specification and a driver, where
-/// the text ends at a place. Read today are fields of one word, `outputs`, and a `tick` with
-/// `assign`, `if` and `query`; the driver says which noise an emulator sees at power-on, and in
-/// this form there is none.
+/// the text ends at a place. The driver says which cells are persistent, and so which states have
+/// words of noise at power-on. Read today are fields of one word, `power` with `assign` and `if`,
+/// `outputs`, and a `tick` with `query` besides.
 pub fn read_emulator(
     alloc: Global,
     trees: &[Tree],
     end: Place,
     c: &Circuit,
     s: &SpecProgram,
-    _d: &DriverProgram,
+    d: &DriverProgram,
 ) -> Result<EmuProgram, LangFault>
-    ensures { Gives result (emulator_text c.now s.now end trees.now) }
+    ensures { Gives result (emulator_text c.now s.now d.now end trees.now) }
 {
     match trees.split_first() {
-        Some((tree, more)) => emulator_of(alloc, tree, more, c, s),
+        Some((tree, more)) => emulator_of(alloc, tree, more, c, s, d),
         None => Err(fault(end, LangWhy::Missing)),
     }
 }

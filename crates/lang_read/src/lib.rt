@@ -2,12 +2,18 @@
 //! Read is the first form of the languages; what is outside it is refused.
 #![tactic(auto)]
 
+mod body;
+mod calls;
 mod driver;
 mod emulator;
+mod entries;
+mod examples;
+mod heads;
 mod spec;
 mod statement;
 
 pub use driver::read_driver;
 pub use emulator::read_emulator;
+pub use examples::{costs_as_expected, entries_as_expected, lacking_calls_as_expected};
 pub use expr_read::{LangFault, LangWhy};
 pub use spec::read_spec;

@@ -1,14 +1,16 @@
-//! Specifications: `(spec (field x w n) .. (op x ((x w) ..) w (assign x e) .. (result e)) ..)`.
+//! Specifications: `(spec (field x w n) .. (op x ((x w) ..) w (local x w) .. stmt .. (result e))
+//! ..)`.
 ghost use Rattle.std.specs.Prelude.{◌≡◌, ◌≤◌, IfOk, OnOk, length, true};
 ghost use Rattle.knox_lang.specs.WellFormed.{spec_fits};
 ghost use Rattle.expr_read.specs.Views.{Gives};
-ghost use Rattle.lang_read.specs.Specifications.{result_in, result_of, bounded, op_body, args_of, nameless_op, op_name, earlier, op_of, named_op, cut_last, op_ending, op_in, operation, operations, spec_in, spec_parts, made, spec_of, spec_text};
+ghost use Rattle.lang_read.specs.Bodies.{cut_last};
+ghost use Rattle.lang_read.specs.Specifications.{args_of, nameless_op, op_name, earlier, op_of, named_op, op_ending, op_in, operation, operations, spec_in, spec_parts, made, spec_of, spec_text};
 
-use crate::statement::{Home, MOST_COST, Steps, block};
+use crate::body::{MOST_COST, replying_body};
+use crate::statement::Home;
 use expr_read::{
-    LangFault, LangWhy, Named, Typed, arguments, behind_head, declare, expr_of_width, fault,
-    field_names, fields_of, forget, headed_count, is_headed, no_more, op_number, parts_of,
-    place_of, symbol_of, width_of,
+    LangFault, LangWhy, Named, arguments, behind_head, declare, fault, field_names, fields_of,
+    forget, headed_count, is_headed, no_more, op_number, parts_of, place_of, symbol_of, width_of,
 };
 use knox_lang::{Body, OpHead, Space, SpecParts, SpecProgram};
 use knox_sexpr::Tree;
@@ -39,60 +41,6 @@ struct OpList {
     bodies: Items<Body>,
 }
 
-/// The expression of the parts of a result, whose list is at the place.
-fn result_in(
-    alloc: Global,
-    at: Place,
-    width: u8,
-    names: &[Named],
-    parts: &[Tree],
-) -> Result<Typed, LangFault>
-    ensures { Gives result (result_in at width names.now parts.now) }
-{
-    match parts {
-        [_, e] => expr_of_width(alloc, e, width, names),
-        _ => Err(fault(at, LangWhy::Form)),
-    }
-}
-
-/// The expression of `(result e)`, of the width that is wanted.
-fn result_of(alloc: Global, tree: &Tree, width: u8, names: &[Named]) -> Result<Typed, LangFault>
-    ensures { Gives result (result_of tree.now width names.now) }
-{
-    let parts = parts_of(tree)?;
-    result_in(alloc, place_of(tree), width, names, parts)
-}
-
-/// The body of an operation whose list is at the place, if it isn't too dear.
-fn bounded(alloc: Global, at: Place, steps: Steps, value: Typed) -> Result<Body, LangFault>
-    ensures { Gives result (bounded at steps value) }
-{
-    if steps.cost.saturating_add(value.cost) > MOST_COST {
-        return Err(fault(at, LangWhy::Bound));
-    }
-    Ok(Body {
-        locals: Items::new(alloc),
-        stmts: steps.stmts,
-        result: Some(value.expr),
-    })
-}
-
-/// The statements and the result of an operation, whose list is at the place.
-fn op_body(
-    alloc: Global,
-    at: Place,
-    names: &[Named],
-    width: u8,
-    stmts: &[Tree],
-    last: &Tree,
-) -> Result<Body, LangFault>
-    ensures { Gives result (op_body at names.now width stmts.now last.now) }
-{
-    let steps = block(alloc, Home::Operation, stmts, names, &[])?;
-    let value = result_of(alloc, last, width, names)?;
-    bounded(alloc, at, steps, value)
-}
-
 /// The arguments `((x w) ..)`.
 fn args_of(alloc: Global, tree: &Tree) -> Result<Items<(Items<u8>, u8)>, LangFault>
     ensures { Gives result (args_of tree.now) }
@@ -119,7 +67,8 @@ fn nameless_op(
     let result = width_of(w)?;
     let fields = names.len();
     declare(alloc, Space::Arg, args.as_slice(), names)?;
-    let body = op_body(alloc, at, names.as_slice(), result, stmts, last)?;
+    let home = Home::Plain;
+    let body = replying_body(alloc, &home, MOST_COST, at, names, result, stmts, last)?;
     forget(names, fields);
     Ok(Nameless { args, result, body })
 }
@@ -306,7 +255,7 @@ fn spec_of(alloc: Global, tree: &Tree, more: &[Tree]) -> Result<SpecProgram, Lan
 }
 
 /// The specification that the trees of a text mean, where the text ends at a place. Read today are
-/// fields of one word and operations with `assign`, and widths up to 8.
+/// fields of one word and operations with `local`, `assign` and `if`, and widths up to 8.
 pub fn read_spec(alloc: Global, trees: &[Tree], end: Place) -> Result<SpecProgram, LangFault>
     ensures read { Gives result (spec_text end trees.now) }
     ensures fits { IfOk result (λ p. spec_fits p ≡ true) }

@@ -1,11 +1,11 @@
 //! Statements and bodies.
 ghost use Rattle.std.specs.Prelude.{◌≡◌, map, slice_get, Ok};
 ghost use Rattle.expr_read.specs.Views.{Gives, Sees};
-ghost use Rattle.lang_read.specs.Statements.{stmt_part, in_tick, keyword_in, keyword_of, assign, assigned, if_of, branched, branch, values_of, suit, reply, given, asked, head_at, op_of, queried, query, earlier, form, begun, stmt_of, inner_of, block_of};
+ghost use Rattle.lang_read.specs.Statements.{stmt_part, in_emulator, in_driver, ops_in, inputs_in, turns_of, while_of, repeated, repeat, input_set, set_input, tick, keyword_in, keyword_of, assign, assigned, if_of, branched, branch, values_of, suit, reply, given, asked, head_at, op_of, queried, query, earlier, form, begun, stmt_of, inner_of, block_of};
 
 use expr_read::{
-    LangFault, LangWhy, Named, Seen, Typed, expr, expr_of_width, fault, op_number, place_of,
-    symbol_of, target,
+    Group, LangFault, LangWhy, Named, Seen, Typed, expr, expr_of_width, fault, number_of,
+    op_number, place_of, seen_of, symbol_of, target,
 };
 use knox_lang::{Expr, OpHead, Stmt};
 use knox_sexpr::Tree;
@@ -13,16 +13,18 @@ use knox_text::Place;
 use sqlite_items::Items;
 use std::alloc::{AllocError, Global};
 
-/// The greatest cost of a body that is no driver's, and of an expression that stands in no body.
-pub(crate) const MOST_COST: u64 = 1_000_000;
+/// The greatest number of turns of a `while`.
+const MOST_TURNS: u128 = 1_000_000;
 
-/// Whose body a statement stands in.
-#[derive(Clone, Copy, Debug, PartialEq, Eq)]
+/// Whose body a statement stands in, and what it may do there besides `assign` and `if`.
+#[derive(Drop)]
 pub(crate) enum Home {
-    /// An operation of a specification.
-    Operation,
-    /// The tick of an emulator.
-    Tick,
+    /// An operation of a specification: no more.
+    Plain,
+    /// The tick of an emulator, which asks these operations.
+    Emulator(Items<OpHead>),
+    /// A driver, which sets these inputs, ticks and loops.
+    Driver(Items<Named>),
 }
 
 /// A statement and its cost.
@@ -45,35 +47,73 @@ enum Keyword {
     Assign,
     If,
     Query,
+    While,
+    SetInput,
+    Tick,
     /// No word that begins a statement here.
     Other,
 }
 
-fn in_tick(home: Home, keyword: Keyword) -> Keyword
-    ensures { result ≡ in_tick home keyword }
+fn in_emulator(home: &Home, keyword: Keyword) -> Keyword
+    ensures { result ≡ in_emulator home.now keyword }
 {
     match home {
-        Home::Tick => keyword,
-        Home::Operation => Keyword::Other,
+        Home::Emulator(_) => keyword,
+        _ => Keyword::Other,
     }
 }
 
-fn keyword_in(home: Home, name: &[u8]) -> Keyword
-    ensures { result ≡ keyword_in home name.now }
+fn in_driver(home: &Home, keyword: Keyword) -> Keyword
+    ensures { result ≡ in_driver home.now keyword }
+{
+    match home {
+        Home::Driver(_) => keyword,
+        _ => Keyword::Other,
+    }
+}
+
+/// The operations that a body may ask.
+fn ops_in(home: &Home) -> &[OpHead]
+    ensures { result.now ≡ ops_in home.now }
+{
+    match home {
+        Home::Emulator(ops) => ops.as_slice(),
+        _ => &[],
+    }
+}
+
+/// The inputs that a body may set.
+fn inputs_in(home: &Home) -> &[Named]
+    ensures { result.now ≡ inputs_in home.now }
+{
+    match home {
+        Home::Driver(inputs) => inputs.as_slice(),
+        _ => &[],
+    }
+}
+
+fn keyword_in(home: &Home, name: &[u8]) -> Keyword
+    ensures { result ≡ keyword_in home.now name.now }
 {
     if name == b"assign".as_slice() {
         Keyword::Assign
     } else if name == b"if".as_slice() {
-        in_tick(home, Keyword::If)
+        Keyword::If
     } else if name == b"query".as_slice() {
-        in_tick(home, Keyword::Query)
+        in_emulator(home, Keyword::Query)
+    } else if name == b"while".as_slice() {
+        in_driver(home, Keyword::While)
+    } else if name == b"in".as_slice() {
+        in_driver(home, Keyword::SetInput)
+    } else if name == b"tick".as_slice() {
+        in_driver(home, Keyword::Tick)
     } else {
         Keyword::Other
     }
 }
 
-fn keyword_of(home: Home, tree: &Tree) -> Keyword
-    ensures { result ≡ keyword_of home tree.now }
+fn keyword_of(home: &Home, tree: &Tree) -> Keyword
+    ensures { result ≡ keyword_of home.now tree.now }
 {
     match tree {
         Tree::Atom(_, name) => keyword_in(home, name.as_slice()),
@@ -86,17 +126,16 @@ fn keyword_of(home: Home, tree: &Tree) -> Keyword
 #[cycle(statements)]
 pub(crate) fn block(
     alloc: Global,
-    home: Home,
+    home: &Home,
     trees: &[Tree],
     names: &[Named],
-    ops: &[OpHead],
 ) -> Result<Steps, LangFault>
-    ensures { Gives result (block_of home trees.now names.now ops.now) }
+    ensures { Gives result (block_of home.now trees.now names.now) }
 {
     let mut stmts = Items::new(alloc);
     let mut cost: u64 = 0;
     for tree in trees {
-        let step = statement(alloc, home, tree, names, ops)?;
+        let step = statement(alloc, home, tree, names)?;
         cost = cost.saturating_add(step.cost);
         stmts.push(step.stmt)?;
     }
@@ -105,19 +144,13 @@ pub(crate) fn block(
 
 /// The statement that a tree means.
 #[cycle(statements)]
-fn statement(
-    alloc: Global,
-    home: Home,
-    tree: &Tree,
-    names: &[Named],
-    ops: &[OpHead],
-) -> Result<Step, LangFault>
-    ensures { Gives result (stmt_of home tree.now names.now ops.now) }
+fn statement(alloc: Global, home: &Home, tree: &Tree, names: &[Named]) -> Result<Step, LangFault>
+    ensures { Gives result (stmt_of home.now tree.now names.now) }
 {
     match tree {
         Tree::Atom(at, _) => Err(fault(*at, LangWhy::Form)),
         Tree::Number(at, _, _) => Err(fault(*at, LangWhy::Form)),
-        Tree::List(at, parts, _) => begun(alloc, home, *at, parts.as_slice(), names, ops),
+        Tree::List(at, parts, _) => begun(alloc, home, *at, parts.as_slice(), names),
     }
 }
 
@@ -125,17 +158,16 @@ fn statement(
 #[cycle(statements)]
 fn begun(
     alloc: Global,
-    home: Home,
+    home: &Home,
     at: Place,
     parts: &[Tree],
     names: &[Named],
-    ops: &[OpHead],
 ) -> Result<Step, LangFault>
-    ensures { Gives result (begun home at (map stmt_part parts.now) names.now ops.now) }
+    ensures { Gives result (begun home.now at (map stmt_part parts.now) names.now) }
 {
     match parts {
         [] => Err(fault(at, LangWhy::Form)),
-        [head, rest @ ..] => form(alloc, home, at, keyword_of(home, head), rest, names, ops),
+        [head, rest @ ..] => form(alloc, home, at, keyword_of(home, head), rest, names),
     }
 }
 
@@ -143,19 +175,21 @@ fn begun(
 #[cycle(statements)]
 fn form(
     alloc: Global,
-    home: Home,
+    home: &Home,
     at: Place,
     keyword: Keyword,
     parts: &[Tree],
     names: &[Named],
-    ops: &[OpHead],
 ) -> Result<Step, LangFault>
-    ensures { Gives result (form home at keyword (map stmt_part parts.now) names.now ops.now) }
+    ensures { Gives result (form home.now at keyword (map stmt_part parts.now) names.now) }
 {
     match keyword {
         Keyword::Assign => assign(alloc, at, parts, names),
-        Keyword::If => branch(alloc, home, at, parts, names, ops),
-        Keyword::Query => query(alloc, at, parts, names, ops),
+        Keyword::If => branch(alloc, home, at, parts, names),
+        Keyword::Query => query(alloc, at, parts, names, ops_in(home)),
+        Keyword::While => repeat(alloc, home, at, parts, names),
+        Keyword::SetInput => set_input(alloc, inputs_in(home), at, parts, names),
+        Keyword::Tick => tick(at, parts),
         Keyword::Other => Err(fault(at, LangWhy::Form)),
     }
 }
@@ -196,18 +230,17 @@ fn if_of(test: Typed, first: Steps, second: Steps) -> Step
 #[cycle(statements)]
 fn branched(
     alloc: Global,
-    home: Home,
+    home: &Home,
     e: &Tree,
     a: &Tree,
     b: &Tree,
     names: &[Named],
-    ops: &[OpHead],
 ) -> Result<Step, LangFault>
-    ensures { Gives result (branched home e.now (stmt_part a.now) (stmt_part b.now) names.now ops.now) }
+    ensures { Gives result (branched home.now e.now (stmt_part a.now) (stmt_part b.now) names.now) }
 {
     let test = expr_of_width(alloc, e, 1, names)?;
-    let first = inner(alloc, home, a, names, ops)?;
-    let second = inner(alloc, home, b, names, ops)?;
+    let first = inner(alloc, home, a, names)?;
+    let second = inner(alloc, home, b, names)?;
     Ok(if_of(test, first, second))
 }
 
@@ -215,35 +248,134 @@ fn branched(
 #[cycle(statements)]
 fn branch(
     alloc: Global,
-    home: Home,
+    home: &Home,
     at: Place,
     parts: &[Tree],
     names: &[Named],
-    ops: &[OpHead],
 ) -> Result<Step, LangFault>
-    ensures { Gives result (branch home at (map stmt_part parts.now) names.now ops.now) }
+    ensures { Gives result (branch home.now at (map stmt_part parts.now) names.now) }
 {
     match parts {
-        [e, a, b] => branched(alloc, home, e, a, b, names, ops),
+        [e, a, b] => branched(alloc, home, e, a, b, names),
         _ => Err(fault(at, LangWhy::Form)),
     }
 }
 
 /// The statements of a list.
 #[cycle(statements)]
-fn inner(
-    alloc: Global,
-    home: Home,
-    tree: &Tree,
-    names: &[Named],
-    ops: &[OpHead],
-) -> Result<Steps, LangFault>
-    ensures { Gives result (inner_of home tree.now names.now ops.now) }
+fn inner(alloc: Global, home: &Home, tree: &Tree, names: &[Named]) -> Result<Steps, LangFault>
+    ensures { Gives result (inner_of home.now tree.now names.now) }
 {
     match tree {
         Tree::Atom(at, _) => Err(fault(*at, LangWhy::Form)),
         Tree::Number(at, _, _) => Err(fault(*at, LangWhy::Form)),
-        Tree::List(_, parts, _) => block(alloc, home, parts.as_slice(), names, ops),
+        Tree::List(_, parts, _) => block(alloc, home, parts.as_slice(), names),
+    }
+}
+
+/// The number of turns that a tree gives.
+fn turns_of(tree: &Tree) -> Result<u32, LangFault>
+    ensures { Gives result (turns_of tree.now) }
+{
+    let turns = number_of(tree)?;
+    if turns <= MOST_TURNS {
+        Ok(turns as u32)
+    } else {
+        Err(fault(place_of(tree), LangWhy::Bound))
+    }
+}
+
+/// A loop of at most so many turns. Its test is met once more than its statements.
+fn while_of(test: Typed, turns: u32, turn: Steps) -> Step
+    ensures { result ≡ while_of test turns turn }
+{
+    let tests = test.cost.saturating_mul(u64::from(turns) + 1);
+    let inner = turn.cost.saturating_mul(u64::from(turns));
+    Step {
+        stmt: Stmt::While(test.expr, turns, turn.stmts),
+        cost: tests.saturating_add(inner).saturating_add(1),
+    }
+}
+
+/// A test, a number of turns, and the statements of a turn.
+#[cycle(statements)]
+fn repeated(
+    alloc: Global,
+    home: &Home,
+    e: &Tree,
+    n: &Tree,
+    parts: &[Tree],
+    names: &[Named],
+) -> Result<Step, LangFault>
+    ensures { Gives result (repeated e.now n.now (block_of home.now parts.now names.now) names.now) }
+{
+    let test = expr_of_width(alloc, e, 1, names)?;
+    let turns = turns_of(n)?;
+    let turn = block(alloc, home, parts, names)?;
+    Ok(while_of(test, turns, turn))
+}
+
+/// `(while e n stmt ..)`.
+#[cycle(statements)]
+fn repeat(
+    alloc: Global,
+    home: &Home,
+    at: Place,
+    parts: &[Tree],
+    names: &[Named],
+) -> Result<Step, LangFault>
+    ensures { Gives result (repeat home.now at (map stmt_part parts.now) names.now) }
+{
+    match parts {
+        [e, n, rest @ ..] => repeated(alloc, home, e, n, rest, names),
+        _ => Err(fault(at, LangWhy::Form)),
+    }
+}
+
+/// An input that is set to a value.
+fn input_set(
+    alloc: Global,
+    inputs: &[Named],
+    x: &Tree,
+    e: &Tree,
+    names: &[Named],
+) -> Result<Step, LangFault>
+    ensures { Gives result (input_set inputs.now x.now e.now names.now) }
+{
+    let seen = seen_of(Group::Input, x, inputs)?;
+    let value = expr_of_width(alloc, e, seen.width, names)?;
+    Ok(Step {
+        stmt: Stmt::SetInput(seen.slot.number, value.expr),
+        cost: value.cost.saturating_add(1),
+    })
+}
+
+/// `(in x e)`.
+fn set_input(
+    alloc: Global,
+    inputs: &[Named],
+    at: Place,
+    parts: &[Tree],
+    names: &[Named],
+) -> Result<Step, LangFault>
+    ensures { Gives result (set_input inputs.now at parts.now names.now) }
+{
+    match parts {
+        [x, e] => input_set(alloc, inputs, x, e, names),
+        _ => Err(fault(at, LangWhy::Form)),
+    }
+}
+
+/// `(tick)`.
+fn tick(at: Place, parts: &[Tree]) -> Result<Step, LangFault>
+    ensures { Gives result (tick at parts.now) }
+{
+    match parts {
+        [] => Ok(Step {
+            stmt: Stmt::Tick,
+            cost: 1,
+        }),
+        [..] => Err(fault(at, LangWhy::Form)),
     }
 }
 
@@ -258,7 +390,7 @@ fn head_at(at: Place, number: usize, ops: &[OpHead]) -> Result<(usize, &OpHead),
 }
 
 /// The operation that a tree names: its number and its head.
-fn op_of<'a>(tree: &Tree, ops: &'a [OpHead]) -> Result<(usize, &'a OpHead), LangFault>
+pub(crate) fn op_of<'a>(tree: &Tree, ops: &'a [OpHead]) -> Result<(usize, &'a OpHead), LangFault>
     ensures { Sees (λ p. (p.0, p.1.now)) result (op_of tree.now ops.now) }
 {
     let name = symbol_of(tree)?;

@@ -9,13 +9,13 @@ returns-in_err-spec-clause-only c circuit spec driver emulator m =
 
 pub returns-in_err-driver-clause-only : goal.returns-in_err-driver-clause-only
 returns-in_err-driver-clause-only c circuit spec driver emulator m =
-    let said = c.in_err-driver.ensures.only driver (driver-read _ _ _ _ circuit spec driver emulator _ m c.in_ok-circuit.ensures.meant) in
+    let said = c.in_err-driver.ensures.only driver (driver-read _ _ _ _ circuit spec driver emulator _ _ c.one_meaning.ensures.one m c.in_ok-circuit.ensures.meant c.in_ok-spec.ensures.meant) in
     search (rules, said)
 
 pub returns-in_err-emulator-clause-only : goal.returns-in_err-emulator-clause-only
 returns-in_err-emulator-clause-only c circuit spec driver emulator m =
     let said = c.in_err-emulator.ensures.only emulator
-    (emulator-read _ _ _ _ circuit spec driver emulator _ _ c.one_meaning.ensures.one m c.in_ok-circuit.ensures.meant c.in_ok-spec.ensures.meant) in
+    (emulator-read _ _ _ _ circuit spec driver emulator _ _ _ c.one_meaning.ensures.one m c.in_ok-circuit.ensures.meant c.in_ok-spec.ensures.meant c.in_ok-driver.ensures.meant) in
     search (rules, said)
 
 pub returns-in-None-clause-only : goal.returns-in-None-clause-only

@@ -1,5 +1,5 @@
 use Rattle.std.proofs.Common.{◌≡◌, take}
-use Rattle.lang_read.proofs.emulator.copied_args.Given as goal
+use Rattle.lang_read.proofs.heads.copied_args.Given as goal
 
 abbrev pub invariant-loop-arg : goal.invariant-loop-arg
 invariant-loop-arg l = l.copy ≡ take l.arg-index l.args

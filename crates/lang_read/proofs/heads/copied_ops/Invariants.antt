@@ -1,5 +1,5 @@
 use Rattle.std.proofs.Common.{◌≡◌, take}
-use Rattle.lang_read.proofs.emulator.copied_ops.Given as goal
+use Rattle.lang_read.proofs.heads.copied_ops.Given as goal
 
 abbrev pub invariant-loop-op : goal.invariant-loop-op
 invariant-loop-op l = l.copy ≡ take l.op-index l.ops

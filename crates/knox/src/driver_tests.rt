@@ -1,0 +1,376 @@
+//! Driver texts of the PIN store by the reader of drivers: what it reads, and the first fault of each
+//! text that is one edit away, with its place.
+use crate::devices::{CIRCUIT, SPEC};
+use knox_circuit::{BtorFault, Circuit};
+use knox_lang::{DriverProgram, SpecProgram};
+use knox_sexpr::SexprFault;
+use knox_text::Place;
+use lang_read::{LangFault, LangWhy, read_driver, read_spec};
+use std::alloc::{AllocError, Global};
+use std::test::Fail;
+
+/// A driver with a body for each operation.
+const DRIVER: &[u8] = b"\
+(driver (persistent secret)\n\
+ (call set (in cmd (bv 2 1)) (in data v) (tick) (result #b1))\n\
+ (call check (in cmd (bv 2 2)) (in data g) (tick) (result (out ok))))\n\
+";
+
+/// What a reader answered: nothing is wrong, this is wrong at a line and a column, or the text was
+/// never read.
+#[derive(Clone, Copy, Debug, PartialEq, Eq)]
+pub(crate) enum Read {
+    Fine,
+    Wrong(LangWhy, u32, u32),
+    Never,
+}
+
+impl From<AllocError> for Read {
+    fn from(_e: AllocError) -> Read {
+        Read::Never
+    }
+}
+
+impl From<BtorFault> for Read {
+    fn from(_fault: BtorFault) -> Read {
+        Read::Never
+    }
+}
+
+impl From<SexprFault> for Read {
+    fn from(_fault: SexprFault) -> Read {
+        Read::Never
+    }
+}
+
+impl From<LangFault> for Read {
+    fn from(fault: LangFault) -> Read {
+        Read::Wrong(fault.why, fault.place.line, fault.place.column)
+    }
+}
+
+/// The place of a text's end, where the text has no tree.
+pub(crate) const END: Place = Place { line: 1, column: 1 };
+
+/// The circuit and the specification of the store.
+fn store(alloc: Global) -> Result<(Circuit, SpecProgram), Read> {
+    if CIRCUIT.len() > 1000 || SPEC.len() > 1000 {
+        return Err(Read::Never);
+    }
+    let circuit = btor_read::read_circuit(alloc, CIRCUIT)?;
+    let trees = knox_sexpr::read(alloc, SPEC)?;
+    let spec = read_spec(alloc, trees.as_slice(), END)?;
+    Ok((circuit, spec))
+}
+
+/// The driver of a text for the store.
+fn driver_of(alloc: Global, text: &[u8]) -> Result<DriverProgram, Read> {
+    if text.len() > 1000 {
+        return Err(Read::Never);
+    }
+    let (circuit, spec) = store(alloc)?;
+    let trees = knox_sexpr::read(alloc, text)?;
+    let driver = read_driver(alloc, trees.as_slice(), END, &circuit, &spec)?;
+    Ok(driver)
+}
+
+/// What is wrong with a text of a driver.
+fn wrong_with(alloc: Global, text: &[u8]) -> Read {
+    match driver_of(alloc, text) {
+        Ok(_) => Read::Fine,
+        Err(read) => read,
+    }
+}
+
+/// A text, and what is wrong with it.
+pub(crate) type Row = (&'static [u8], Read);
+
+/// Texts without a call, for wires alone.
+const WIRES: [Row; 19] = [
+    (b"(driver)", Read::Fine),
+    (
+        b"(driver (persistent secret @12) (idle (cmd 1) (@9 #xf)))",
+        Read::Fine,
+    ),
+    (b"(driver (idle (cmd #b01)))", Read::Fine),
+    (b"(driver persistent)", Read::Wrong(LangWhy::Form, 1, 9)),
+    (
+        b"(driver (persistent secret secret))",
+        Read::Wrong(LangWhy::Twice, 1, 28),
+    ),
+    (
+        b"(driver (persistent secret) (persistent ok))",
+        Read::Wrong(LangWhy::Form, 1, 29),
+    ),
+    (
+        b"(driver (persistent cmd))",
+        Read::Wrong(LangWhy::UnknownName, 1, 21),
+    ),
+    (
+        b"(driver (idle (cmd 4)))",
+        Read::Wrong(LangWhy::Width, 1, 20),
+    ),
+    (
+        b"(driver (idle (cmd 3) (@8 3)))",
+        Read::Wrong(LangWhy::Twice, 1, 23),
+    ),
+    (
+        b"(driver (idle (secret 3)))",
+        Read::Wrong(LangWhy::UnknownName, 1, 16),
+    ),
+    (b"(driver (idle cmd))", Read::Wrong(LangWhy::Form, 1, 15)),
+    (b"(driver (idle (cmd)))", Read::Wrong(LangWhy::Form, 1, 15)),
+    (
+        b"(driver (idle (cmd x)))",
+        Read::Wrong(LangWhy::Form, 1, 20),
+    ),
+    (
+        b"(driver (idle) (persistent secret))",
+        Read::Wrong(LangWhy::Form, 1, 16),
+    ),
+    (b"(driver (idle) (idle))", Read::Wrong(LangWhy::Form, 1, 16)),
+    (b"(driver) (driver)", Read::Wrong(LangWhy::Form, 1, 10)),
+    (b"(emulator)", Read::Wrong(LangWhy::Form, 1, 1)),
+    (b"driver (driver)", Read::Wrong(LangWhy::Form, 1, 1)),
+    (b"", Read::Wrong(LangWhy::Missing, 1, 1)),
+];
+
+/// One call for each operation, in any order. One that is missing comes first.
+const CALLS: [Row; 18] = [
+    (
+        b"(driver (call set (result #b1)) (call check (result #b1)))",
+        Read::Fine,
+    ),
+    (
+        b"(driver (persistent secret) (idle (cmd 1)) (call check (result #b1)) (call set (result #b1)))",
+        Read::Fine,
+    ),
+    (
+        b"(driver (call set (result zz)))",
+        Read::Wrong(LangWhy::Missing, 1, 1),
+    ),
+    (
+        b"(driver (persistent zz) (call check (result #b1))) 1",
+        Read::Wrong(LangWhy::Missing, 1, 1),
+    ),
+    (
+        b"(driver (call zz (result #b1)))",
+        Read::Wrong(LangWhy::Missing, 1, 1),
+    ),
+    (
+        b"(driver (result (call set)) (call check (result #b1)))",
+        Read::Wrong(LangWhy::Missing, 1, 1),
+    ),
+    (
+        b"(driver (call set) (call check))",
+        Read::Wrong(LangWhy::Form, 1, 9),
+    ),
+    (
+        b"(driver (call set (result #b1) (tick)) (call check (result #b1)))",
+        Read::Wrong(LangWhy::Form, 1, 9),
+    ),
+    (
+        b"(driver (call) (call set (result #b1)) (call check (result #b1)))",
+        Read::Wrong(LangWhy::Form, 1, 9),
+    ),
+    (
+        b"(driver (call (result #b1)) (call set (result #b1)) (call check (result #b1)))",
+        Read::Wrong(LangWhy::Form, 1, 9),
+    ),
+    (
+        b"(driver (call set (result #b1)) (call check (result #b1)) (call set (result zz)))",
+        Read::Wrong(LangWhy::Twice, 1, 59),
+    ),
+    (
+        b"(driver (call set (result #b1)) (call set (result zz)) (call check))",
+        Read::Wrong(LangWhy::Twice, 1, 33),
+    ),
+    (
+        b"(driver (call set (result #b1)) (call set) (call check (result #b1)))",
+        Read::Wrong(LangWhy::Form, 1, 33),
+    ),
+    (
+        b"(driver (call zz (result zz)) (call set (result #b1)) (call check (result #b1)))",
+        Read::Wrong(LangWhy::UnknownName, 1, 15),
+    ),
+    (
+        b"(driver (call 1 (result #b1)) (call set (result #b1)) (call check (result #b1)))",
+        Read::Wrong(LangWhy::Form, 1, 15),
+    ),
+    (
+        b"(driver (call set (result #b1)) (call check (result #b1)) (persistent secret))",
+        Read::Wrong(LangWhy::Form, 1, 59),
+    ),
+    (
+        b"(driver (call set (result #b1)) set (call check (result #b1)))",
+        Read::Wrong(LangWhy::Form, 1, 33),
+    ),
+    (
+        b"(driver (call set (result #b1)) (call check (result #b1))) 1",
+        Read::Wrong(LangWhy::Form, 1, 60),
+    ),
+];
+
+/// Bodies: what they see, and what may stand in them.
+const BODIES: [Row; 16] = [
+    (
+        b"(driver (call set (in data v) (tick) (if (out ok) ((tick)) ()) (result (out @21))) (call check (result #b1)))",
+        Read::Fine,
+    ),
+    (
+        b"(driver (call set (local v 1) (assign v #b1) (result v)) (call check (result #b1)))",
+        Read::Fine,
+    ),
+    (
+        b"(driver (call set (local r 1) (local r 1) (result r)) (call check (result #b1)))",
+        Read::Wrong(LangWhy::Twice, 1, 38),
+    ),
+    (
+        b"(driver (call set (tick) (local r 1) (result #b1)) (call check (result #b1)))",
+        Read::Wrong(LangWhy::Form, 1, 26),
+    ),
+    (
+        b"(driver (call set (in cmd v) (result #b1)) (call check (result #b1)))",
+        Read::Wrong(LangWhy::Width, 1, 27),
+    ),
+    (
+        b"(driver (call set (in ok v) (result #b1)) (call check (result #b1)))",
+        Read::Wrong(LangWhy::UnknownName, 1, 23),
+    ),
+    (
+        b"(driver (call set (in cmd) (result #b1)) (call check (result #b1)))",
+        Read::Wrong(LangWhy::Form, 1, 19),
+    ),
+    (
+        b"(driver (call set (tick 1) (result #b1)) (call check (result #b1)))",
+        Read::Wrong(LangWhy::Form, 1, 19),
+    ),
+    (
+        b"(driver (call set (assign v v) (result #b1)) (call check (result #b1)))",
+        Read::Wrong(LangWhy::UnknownName, 1, 27),
+    ),
+    (
+        b"(driver (call set (query v set v) (result #b1)) (call check (result #b1)))",
+        Read::Wrong(LangWhy::Form, 1, 19),
+    ),
+    (
+        b"(driver (call set tick (result #b1)) (call check (result #b1)))",
+        Read::Wrong(LangWhy::Form, 1, 19),
+    ),
+    (
+        b"(driver (call set (result v)) (call check (result #b1)))",
+        Read::Wrong(LangWhy::Width, 1, 27),
+    ),
+    (
+        b"(driver (call set (result g)) (call check (result #b1)))",
+        Read::Wrong(LangWhy::UnknownName, 1, 27),
+    ),
+    (
+        b"(driver (call set (result secret)) (call check (result #b1)))",
+        Read::Wrong(LangWhy::UnknownName, 1, 27),
+    ),
+    (
+        b"(driver (call set (result (in cmd))) (call check (result #b1)))",
+        Read::Wrong(LangWhy::UnknownName, 1, 31),
+    ),
+    (
+        b"(driver (call set (result)) (call check (result #b1)))",
+        Read::Wrong(LangWhy::Form, 1, 19),
+    ),
+];
+
+/// Loops, and what a body may cost.
+const COSTS: [Row; 9] = [
+    (
+        b"(driver (call set (while (out ok) 0) (result #b1)) (call check (result #b1)))",
+        Read::Fine,
+    ),
+    (
+        b"(driver (call set (while #b1 1000000 (tick)) (result #b1)) (call check (result #b1)))",
+        Read::Fine,
+    ),
+    (
+        b"(driver (call set (while #b1 1000001 (tick)) (result #b1)) (call check (result #b1)))",
+        Read::Wrong(LangWhy::Bound, 1, 30),
+    ),
+    (
+        b"(driver (call set (while v 1 (tick)) (result #b1)) (call check (result #b1)))",
+        Read::Wrong(LangWhy::Width, 1, 26),
+    ),
+    (
+        b"(driver (call set (while #b1 x (tick)) (result #b1)) (call check (result #b1)))",
+        Read::Wrong(LangWhy::Form, 1, 30),
+    ),
+    (
+        b"(driver (call set (while #b1) (result #b1)) (call check (result #b1)))",
+        Read::Wrong(LangWhy::Form, 1, 19),
+    ),
+    (
+        b"(driver (call set (while #b1 1 1) (result #b1)) (call check (result #b1)))",
+        Read::Wrong(LangWhy::Form, 1, 32),
+    ),
+    (
+        b"(driver (call set (while #b1 1000000 (tick) (tick) (tick) (tick) (tick) (tick) (tick) (tick)) (while #b1 999995) (result #b1)) (call check (result #b1)))",
+        Read::Fine,
+    ),
+    (
+        b"(driver (call set (while #b1 1000000 (tick) (tick) (tick) (tick) (tick) (tick) (tick) (tick)) (while #b1 999996) (result #b1)) (call check (result #b1)))",
+        Read::Wrong(LangWhy::Bound, 1, 9),
+    ),
+];
+
+/// The first row of a table whose text isn't read so.
+fn first_other(alloc: Global, rows: &[Row]) -> Option<usize> {
+    for (number, row) in rows.iter().enumerate() {
+        if wrong_with(alloc, row.0) != row.1 {
+            return Some(number);
+        }
+    }
+    None
+}
+
+#[test]
+fn drivers_for_wires(rt: HostRuntime) -> Result<(), Fail> {
+    assert_eq!(rt; first_other(rt.alloc(), &WIRES), None);
+    Ok(())
+}
+
+#[test]
+fn drivers_with_calls(rt: HostRuntime) -> Result<(), Fail> {
+    assert_eq!(rt; first_other(rt.alloc(), &CALLS), None);
+    Ok(())
+}
+
+#[test]
+fn bodies_of_drivers(rt: HostRuntime) -> Result<(), Fail> {
+    assert_eq!(rt; first_other(rt.alloc(), &BODIES), None);
+    Ok(())
+}
+
+#[test]
+fn costs_of_drivers(rt: HostRuntime) -> Result<(), Fail> {
+    assert_eq!(rt; first_other(rt.alloc(), &COSTS), None);
+    Ok(())
+}
+
+/// How many statements each body of a driver has.
+fn sizes_of(alloc: Global, text: &[u8]) -> Result<Vec<usize>, Read> {
+    let driver = driver_of(alloc, text)?;
+    let mut sizes = Vec::new(alloc);
+    for body in driver.parts().bodies.as_slice() {
+        sizes.push(body.stmts.len())?;
+    }
+    Ok(sizes)
+}
+
+#[test]
+fn bodies_come_in_the_order_of_the_operations(rt: HostRuntime) -> Result<(), Fail> {
+    let text = b"(driver (call check (tick) (result #b1)) (call set (tick) (tick) (result #b1)))";
+    for (text, first, second) in [(DRIVER, 3, 2), (text.as_slice(), 2, 1)] {
+        match sizes_of(rt.alloc(), text) {
+            Ok(sizes) => assert_eq!(rt; sizes.as_slice(), [first, second].as_slice()),
+            Err(read) => assert_eq!(rt; read, Read::Fine),
+        }
+    }
+    Ok(())
+}

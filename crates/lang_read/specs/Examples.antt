@@ -1,0 +1,43 @@
+-- What the computed examples speak of: two operations, and a driver that calls one of them.
+use Rattle.std.specs.Prelude.{ℕ, List, [], ◌∷◌, codes, None}
+use Rattle.knox_text.specs.Examples.{place}
+use Rattle.knox_words.specs.Bits.{bits}
+use Rattle.knox_sexpr.specs.declared.tree.Tree.{Tree}
+use Rattle.knox_sexpr.specs.declared.tree.Tree.TheVariants as trees
+use Rattle.knox_circuit.specs.Circuit.{Circuit}
+use Rattle.knox_lang.specs.declared.expr.Expr.{Expr}
+use Rattle.knox_lang.specs.declared.expr.Expr.TheVariants.{Lit}
+use Rattle.knox_lang.specs.declared.expr.Space.TheVariants.{Input}
+use Rattle.knox_lang.specs.declared.parts.OpHead.{OpHead}
+use Rattle.knox_lang.specs.declared.parts.SpecParts.{SpecParts}
+use Rattle.expr_read.specs.declared.expression.Typed.{Typed}
+use Rattle.expr_read.specs.declared.names.Seen.{Seen}
+use Rattle.expr_read.specs.Expressions.{typed}
+use Rattle.lang_read.specs.declared.statement.Steps.{Steps}
+
+abbrev pub no_lines : Circuit
+no_lines = record { lines = [] }
+
+abbrev pub op : List ℕ → OpHead
+op name = record { name = name; args = []; result = 1 }
+
+abbrev pub two_ops : SpecParts
+two_ops = record { fields = []; init = []; funs = []; ops = op (codes "set") ∷ op (codes "check") ∷ []; bodies = [] }
+
+-- (driver (call set r)), whose parentheses stand in columns 1, 9, 30 and 31 of the first line
+abbrev pub only_set : Tree → Tree
+only_set r =
+    trees.List (place 1 1) (trees.Atom (place 1 2) (codes "driver")
+    ∷ trees.List (place 1 9) (trees.Atom (place 1 10) (codes "call") ∷ trees.Atom (place 1 15) (codes "set") ∷ r ∷ []) (place 1 30) ∷ []) (place 1 31)
+
+-- a bit that costs so much
+abbrev pub bit_of_cost : ℕ → Typed
+bit_of_cost c = typed (Lit (bits 1 1)) 1 c
+
+-- no statements, at a cost all the same
+abbrev pub steps_of_cost : ℕ → Steps
+steps_of_cost c = record { stmts = []; cost = c }
+
+-- the input of a number, 2 bits wide
+abbrev pub input : ℕ → Seen
+input k = record { slot = record { space = Input; number = k }; width = 2 }

@@ -1,0 +1,36 @@
+//! The definitions, computed on small things.
+ghost use Rattle.std.specs.Prelude.{◌≡◌, ℕ, [], ◌∷◌, Some, None, Ok};
+ghost use Rattle.knox_text.specs.Examples.{place};
+ghost use Rattle.knox_words.specs.Bits.{bits};
+ghost use Rattle.knox_sexpr.specs.declared.tree.Tree.{Tree};
+ghost use Rattle.knox_lang.specs.declared.expr.Expr.TheVariants.{Lit};
+ghost use Rattle.expr_read.specs.declared.faults.LangWhy.TheVariants.{Width, Bound, Missing};
+ghost use Rattle.expr_read.specs.Views.{fails};
+ghost use Rattle.lang_read.specs.Entries.{filled};
+ghost use Rattle.lang_read.specs.Statements.{while_of};
+ghost use Rattle.lang_read.specs.Bodies.{silent, replying};
+ghost use Rattle.lang_read.specs.Drivers.{idle_word, driver_text};
+ghost use Rattle.lang_read.specs.Examples.{no_lines, two_ops, only_set, bit_of_cost, steps_of_cost, input};
+
+/// A driver that lacks a call is refused at its first parenthesis, whatever else stands in it.
+pub fn lacking_calls_as_expected()
+    ensures missing { (r : Tree) → driver_text no_lines two_ops (place 1 32) (only_set r ∷ []) ≡ fails (place 1 1) Missing }
+{}
+
+/// The test of a loop counts once more than its turns, and bodies have limits.
+pub fn costs_as_expected()
+    ensures turns { (while_of (bit_of_cost 3) 4 (steps_of_cost 10)).cost ≡ 56 }
+    ensures no_turn { (while_of (bit_of_cost 3) 0 (steps_of_cost 10)).cost ≡ 4 }
+    ensures saturated { (while_of (bit_of_cost 3) 1000000 (steps_of_cost 18446744073709551615)).cost ≡ 18446744073709551615 }
+    ensures dear { replying 10000000 (place 1 9) [] (steps_of_cost 9999999) (bit_of_cost 1) ≡ Ok (record { locals = []; stmts = []; result = Some (Lit (bits 1 1)) }) }
+    ensures too_dear { replying 10000000 (place 1 9) [] (steps_of_cost 10000000) (bit_of_cost 1) ≡ fails (place 1 9) Bound }
+    ensures silent { silent (place 1 9) [] (steps_of_cost 1000000) ≡ Ok (record { locals = []; stmts = []; result = None }) }
+    ensures too_dear_silent { silent (place 1 9) [] (steps_of_cost 1000001) ≡ fails (place 1 9) Bound }
+{}
+
+/// Entries give words to what they name, and the first of two decides.
+pub fn entries_as_expected()
+    ensures idle { idle_word (input 5) (place 1 9) 3 ≡ Ok (5, bits 2 3) }
+    ensures too_large { idle_word (input 5) (place 1 9) 4 ≡ fails (place 1 9) Width }
+    ensures filled { filled {A = ℕ} ((1, 7) ∷ (0, 8) ∷ (1, 9) ∷ (5, 6) ∷ []) (1 ∷ 2 ∷ 3 ∷ []) ≡ 8 ∷ 7 ∷ 3 ∷ [] }
+{}
