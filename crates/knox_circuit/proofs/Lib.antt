@@ -12,6 +12,7 @@ pub mod Initial
 pub mod Filling
 pub mod Celled
 pub mod Sound
+pub mod Shown
 pub mod Noisy
 pub mod Renewed
 pub mod Persisting

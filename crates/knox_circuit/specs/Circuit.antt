@@ -5,7 +5,7 @@ use Rattle.knox_circuit.specs.declared.line.Line.{Line}
 use Rattle.knox_circuit.specs.declared.circuit.Cell.{Cell}
 use Rattle.knox_circuit.specs.Meaning.{Value, given, zero_word, constant, operand, word, value_of}
 use Rattle.knox_circuit.specs.States.{next_of, cells_among, cell_of, size, words_in}
-use Rattle.knox_circuit.specs.Ports.{output_operands, inputs_of}
+use Rattle.knox_circuit.specs.Ports.{output_operands, inputs_of, outputs_of}
 use Rattle.knox_circuit.specs.declared.circuit.Port.{Port}
 
 -- a circuit is its lines, in the order of the text
@@ -77,3 +77,7 @@ state_widths (c ∷ cs) = replicate (size c.index) c.width ++ state_widths cs
 -- the widths of the input words
 abbrev pub input_widths : List Line → List ℕ
 input_widths lines = map (λ (p : Port). p.width) (inputs_of (reverse lines))
+
+-- the widths of the output words
+abbrev pub output_widths : List Line → List ℕ
+output_widths lines = map (λ (p : Port). p.width) (outputs_of (reverse lines))

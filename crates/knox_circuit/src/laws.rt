@@ -4,7 +4,7 @@ ghost use Rattle.std.specs.List.{list_all};
 ghost use Rattle.knox_words.specs.Bits.{Bits};
 ghost use Rattle.knox_words.specs.Lists.{fit, are_widths};
 ghost use Rattle.knox_circuit.specs.declared.circuit.Cell.{Cell};
-ghost use Rattle.knox_circuit.specs.Circuit.{cells_of, state_after_tick, state_widths, input_widths};
+ghost use Rattle.knox_circuit.specs.Circuit.{cells_of, output_words, state_after_tick, state_widths, input_widths, output_widths};
 ghost use Rattle.knox_circuit.specs.Power.{factory_state, state_after_power, noise_cells, noise_widths, states_of, persistent_words, persistent_widths, spread_words};
 ghost use Rattle.knox_circuit.specs.States.{words_in};
 
@@ -16,6 +16,13 @@ pub fn circuits_keep_widths(c: &Circuit)
     ensures tick { (state inputs : List Bits) → fit (state_widths (cells_of c.now.lines)) state ≡ true → fit (input_widths c.now.lines) inputs ≡ true → fit (state_widths (cells_of c.now.lines)) (state_after_tick c.now.lines state inputs) ≡ true }
     ensures factory { (noise : List Bits) → fit (noise_widths (states_of c.now.lines) []) noise ≡ true → fit (state_widths (cells_of c.now.lines)) (factory_state c.now.lines noise) ≡ true }
     ensures power { (keep : List Bool) (state noise : List Bits) → length keep ≡ length (cells_of c.now.lines) → fit (state_widths (cells_of c.now.lines)) state ≡ true → fit (noise_widths (states_of c.now.lines) keep) noise ≡ true → fit (state_widths (cells_of c.now.lines)) (state_after_power c.now.lines keep state noise) ≡ true }
+{
+    let _tables = c.tables();
+}
+
+/// Output words have the widths of their lines' nodes.
+pub fn outputs_have_widths(c: &Circuit)
+    ensures { (state inputs : List Bits) → fit (state_widths (cells_of c.now.lines)) state ≡ true → fit (input_widths c.now.lines) inputs ≡ true → fit (output_widths c.now.lines) (output_words c.now.lines state inputs) ≡ true }
 {
     let _tables = c.tables();
 }

@@ -23,7 +23,8 @@ pub use draft::Draft;
 pub use fault::{BtorFault, Why};
 pub use laws::{
     cells_are_single_words, circuits_have_widths, circuits_keep_widths,
-    noise_cells_are_single_words, persistent_words_are_spread, power_keeps_persistent_words,
+    noise_cells_are_single_words, outputs_have_widths, persistent_words_are_spread,
+    power_keeps_persistent_words,
 };
 pub use line::{Line, Shape};
 pub use noise::{NoiseCell, NoiseCells};

@@ -6,3 +6,4 @@ pub mod Operation
 pub mod Typing
 pub mod WellFormed
 pub mod Rules
+pub mod Fitting

@@ -1,0 +1,10 @@
+pub mod Tops
+pub mod Settling
+pub mod Arms
+pub mod Meaning
+pub mod Lowers
+pub mod Steps
+pub mod Ending
+pub mod Moving
+pub mod Keeping
+pub mod Lawfully

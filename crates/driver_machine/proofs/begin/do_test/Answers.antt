@@ -1,0 +1,24 @@
+use Rattle.std.proofs.Common.{◌≡◌, ◌-◌, Option, [], slice_get, Some, arith, subst}
+use Rattle.std.proofs.lemmas.Grind.{common_steps}
+use Rattle.knox_words.specs.Lists.{Words}
+use Rattle.knox_lang.specs.declared.expr.Stmt.{Stmt, out-Stmt}
+use Rattle.driver_machine.specs.Sight.{setting}
+use Rattle.driver_machine.specs.Place.{top, while_in, while_at}
+use Rattle.driver_machine.specs.Begins.{Retests, doing, run_in}
+use Rattle.driver_machine.proofs.Arms.{retests-tests}
+use Rattle.driver_machine.proofs.begin.do_test.Goals as goal
+
+pub returns-clause-done : goal.returns-clause-done
+returns-clause-done c =
+    let body = c.args.body.now in
+    let pos = c.args.pos.now in
+    let s = c.in-Some.s.now in
+    let g = setting c.args.c.now.lines c.args.funs.now c.args.scene.now.args in
+    let x = doing pos (run_in c.args.scene.now) c.test.new.pos (run_in c.test.new.scene) in
+    let r = c.in_ok-part-in-Some.part in
+    let at : slice_get (top body [] pos.frames).list (pos.place - 1) ≡ Some s = grind (arith, common_steps) in
+    let h : while_in (out-Stmt s) = subst (λ (o : Option Stmt). while_at o) at c.requires in
+    let e : c.current.new.bound ≡ (top body [] pos.frames).bound = grind (arith, common_steps) in
+    let b : Retests g (top body [] pos.frames).bound c.args.j (out-Stmt s) x r =
+    subst (λ (ws : Words). Retests g ws c.args.j (out-Stmt s) x r) e c.in_ok-part-in-Some.ensures.done in
+    retests-tests g body x r s at c.args.j h b

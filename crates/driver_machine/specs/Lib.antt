@@ -1,0 +1,12 @@
+pub mod Sight
+pub mod Drive
+pub mod Left
+pub mod Moves
+pub mod Place
+pub mod Follows
+pub mod Stand
+pub mod Begins
+pub mod Configs
+pub mod Fits
+pub mod Lawful
+pub mod Means

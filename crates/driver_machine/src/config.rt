@@ -1,0 +1,253 @@
+//! A driver on its way through a body.
+ghost use Rattle.std.specs.Prelude.{◌≡◌, ◌-◌, ◌≤◌, ◌++◌, [], ◌∷◌, map, length, Option, Some, None, IfOk, OnOk, OnErr};
+ghost use Rattle.std.specs.Option.{option_copied};
+ghost use Rattle.knox_circuit.specs.Circuit.{cells_of};
+ghost use Rattle.knox_circuit.specs.States.{words_in};
+ghost use Rattle.knox_lang.specs.Operation.{start_of};
+ghost use Rattle.driver_machine.specs.Drive.{locals_of, result_of, stmts_of};
+ghost use Rattle.driver_machine.specs.Left.{start, step};
+ghost use Rattle.driver_machine.specs.Sight.{setting, result_value};
+ghost use Rattle.driver_machine.specs.Begins.{run_in};
+ghost use Rattle.driver_machine.specs.Configs.{config_of, moved_of, run_at, with_word, with_local, LowersParts};
+ghost use Rattle.driver_machine.specs.Moves.{parts_left};
+
+use crate::begin::do_part;
+use crate::part::Part;
+use crate::position::Position;
+use crate::reply::{Moved, Reply};
+use crate::scene::Scene;
+use knox_circuit::{Circuit, Inputs, State};
+use knox_lang::{Body, DriverProgram, Expr, Fun, Stmt};
+use knox_words::{Word, Words};
+use sqlite_items::Items;
+use std::alloc::{AllocError, Global};
+
+/// A driver at a place of an operation's body: the words that the body works on, and its reply
+/// where it has ended.
+#[derive(Drop)]
+pub struct DriverConfig {
+    op: u32,
+    position: Position,
+    scene: Scene,
+    reply: Option<Reply>,
+}
+
+/// The zero words of the widths of locals.
+fn zero_locals(alloc: Global, locals: &[(Items<u8>, u8)]) -> Result<Words, AllocError>
+    ensures { IfOk result (λ ws. ws ≡ start_of locals.now) }
+{
+    let mut out = Words::new(alloc);
+    for local in locals {
+        out.push(knox_words::word_or(local.1, 0))?;
+    }
+    Ok(out)
+}
+
+/// The locals of a body at its start. Where there is no body, there are none.
+fn first_locals(alloc: Global, body: Option<&Body>) -> Result<Words, AllocError>
+    ensures { IfOk result (λ ws. ws ≡ locals_of (option_copied body.entry)) }
+{
+    match body {
+        Some(body) => zero_locals(alloc, body.locals.as_slice()),
+        None => Ok(Words::new(alloc)),
+    }
+}
+
+/// The statements of a body; none where there is no body.
+fn body_stmts<'a>(body: Option<&'a Body>) -> &'a [Stmt]
+    ensures { result.now ≡ stmts_of (option_copied body.entry) }
+{
+    match body {
+        Some(body) => body.stmts.as_slice(),
+        None => &[],
+    }
+}
+
+/// The value of a body's result, or the zero word where there is none.
+fn result_word(
+    alloc: Global,
+    c: &Circuit,
+    body: Option<&Body>,
+    funs: &[Fun],
+    scene: &mut Scene,
+) -> Result<Word, AllocError>
+    ensures value { IfOk result (λ w. w ≡ result_value (setting c.now.lines funs.now scene.old.args) (run_in scene.old) (result_of (option_copied body.entry))) }
+    ensures same { scene.new ≡ scene.old }
+{
+    match body {
+        Some(body) => match &body.result {
+            Some(e) => {
+                let mut bound = Words::new(alloc);
+                let word = scene.value(alloc, c, e, funs, &mut bound)?;
+                Ok(word)
+            }
+            None => Ok(knox_words::zero()),
+        },
+        None => Ok(knox_words::zero()),
+    }
+}
+
+impl DriverConfig {
+    /// The start of an operation's body on a state, with idle inputs and zero locals. Where the
+    /// driver has no such operation, the body is empty.
+    pub fn start(
+        alloc: Global,
+        c: &Circuit,
+        d: &DriverProgram,
+        s: State,
+        op: u32,
+        args: &[Word],
+    ) -> Result<DriverConfig, AllocError>
+        ensures config { IfOk result (λ m. config_of d.now m ≡ start d.now op args.now s.words) }
+        ensures op { IfOk result (λ m. m.op ≡ op) }
+    {
+        let _circuit = c;
+        let parts = d.parts();
+        let body = sqlite_items::at(parts.bodies.as_slice(), op as usize);
+        let locals = first_locals(alloc, body)?;
+        let idle = parts.idle.copy(alloc)?;
+        let args = Words::from_vec(Vec::from_slice(alloc, args)?);
+        Ok(DriverConfig {
+            op,
+            position: Position::start(alloc),
+            scene: Scene {
+                args,
+                locals,
+                state: s,
+                inputs: Inputs { words: idle },
+            },
+            reply: None,
+        })
+    }
+
+    /// The circuit's cells.
+    pub fn state(&self) -> &State
+        ensures { result.now.words ≡ (run_at self.now).cells }
+    {
+        &self.scene.state
+    }
+
+    /// The circuit's inputs.
+    pub fn inputs(&self) -> &Inputs
+        ensures { result.now.words ≡ (run_at self.now).inputs }
+    {
+        &self.scene.inputs
+    }
+
+    /// The body's locals in order.
+    pub fn locals(&self) -> &[Word]
+        ensures { result.now ≡ (run_at self.now).locals }
+    {
+        self.scene.locals.as_slice()
+    }
+
+    /// The number of the operation.
+    pub fn op(&self) -> u32
+        ensures { result ≡ self.now.op }
+    {
+        self.op
+    }
+
+    /// The body's reply. `None` exactly where the body has not ended.
+    pub fn reply(&self) -> Option<Reply>
+        ensures { result ≡ self.now.reply }
+    {
+        self.reply
+    }
+
+    /// Replaces a device word, where there is one at this place, and leaves all else as it was.
+    pub fn put_word(&mut self, word: u32, v: Word)
+        ensures { self.new ≡ with_word self.old word v }
+    {
+        self.scene.state.words.put(word as usize, v);
+    }
+
+    /// Replaces a local, where there is one at this place, and leaves all else as it was.
+    pub fn put_local(&mut self, local: u32, v: Word)
+        ensures { self.new ≡ with_local self.old local v }
+    {
+        self.scene.locals.put(local as usize, v);
+    }
+
+    /// Does the next part of the body, of which only the result may be left. At the end it changes
+    /// nothing and answers the same again. Want of memory changes nothing.
+    pub fn step(
+        &mut self,
+        alloc: Global,
+        c: &Circuit,
+        d: &DriverProgram,
+    ) -> Result<Moved, AllocError>
+        requires { length (run_at self.old).cells ≡ words_in (cells_of c.now.lines) }
+        ensures config { OnOk result (config_of d.now self.new ≡ step c.now.lines d.now (config_of d.now self.old)) }
+        ensures moved { IfOk result (λ r. r ≡ moved_of c.now.lines d.now (config_of d.now self.old)) }
+        ensures fewer { IfOk result (λ r. LowersParts r (parts_left (config_of d.now self.old).left) (parts_left (config_of d.now self.new).left)) }
+        ensures count { length (run_at self.new).cells ≡ words_in (cells_of c.now.lines) }
+        ensures err { OnErr result (self.new ≡ self.old) }
+    {
+        if let Some(reply) = self.reply {
+            return Ok(Moved::Done(reply));
+        }
+        let moved = self.advance(alloc, c, d)?;
+        Ok(moved)
+    }
+
+    /// Does the next part of a body that has not ended.
+    fn advance(
+        &mut self,
+        alloc: Global,
+        c: &Circuit,
+        d: &DriverProgram,
+    ) -> Result<Moved, AllocError>
+        requires state { length (run_at self.old).cells ≡ words_in (cells_of c.now.lines) }
+        requires open_ { self.old.reply ≡ None }
+        ensures config { OnOk result (config_of d.now self.new ≡ step c.now.lines d.now (config_of d.now self.old)) }
+        ensures moved { IfOk result (λ r. r ≡ moved_of c.now.lines d.now (config_of d.now self.old)) }
+        ensures count { length (run_at self.new).cells ≡ words_in (cells_of c.now.lines) }
+        ensures err { OnErr result (self.new ≡ self.old) }
+    {
+        let parts = d.parts();
+        let funs = parts.funs.as_slice();
+        let body = sqlite_items::at(parts.bodies.as_slice(), self.op as usize);
+        let mut position = self.position.copy(alloc)?;
+        let part = do_part(
+            alloc,
+            c,
+            body_stmts(body),
+            funs,
+            &mut position,
+            &mut self.scene,
+        )?;
+        match part {
+            Part::Ran => {
+                self.position = position;
+                Ok(Moved::Ran)
+            }
+            Part::Ticked => {
+                self.position = position;
+                Ok(Moved::Ticked)
+            }
+            Part::NoTurns => {
+                self.reply = Some(Reply::Stuck);
+                Ok(Moved::Done(Reply::Stuck))
+            }
+            Part::AtResult => {
+                let word = result_word(alloc, c, body, funs, &mut self.scene)?;
+                self.reply = Some(Reply::Value(word));
+                Ok(Moved::Done(Reply::Value(word)))
+            }
+        }
+    }
+
+    /// The circuit's cells, from a driver that has done its work.
+    pub fn into_state(self) -> State
+        ensures { result.words ≡ (run_at self).cells }
+    {
+        let DriverConfig {
+            op: _op,
+            position: _position,
+            scene,
+            reply: _reply,
+        } = self;
+        scene.into_state()
+    }
+}

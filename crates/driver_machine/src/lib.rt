@@ -1,0 +1,18 @@
+//! Drivers: what a driver's body does to a circuit, as a whole and part by part. Start at `drive`;
+//! `specs/Drive.antt` defines the meaning of a body, and `specs/Left.antt` its next part.
+#![tactic(auto)]
+
+mod begin;
+mod config;
+mod laws;
+mod part;
+mod position;
+mod reply;
+mod scene;
+mod settle;
+mod whole;
+
+pub use config::DriverConfig;
+pub use laws::drivers_are_lawful;
+pub use reply::{Moved, Reply};
+pub use whole::{drive, fits_driver};

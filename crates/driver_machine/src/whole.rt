@@ -1,0 +1,113 @@
+//! What a driver's body does as a whole, and whether a driver is one of a circuit.
+ghost use Rattle.std.specs.Prelude.{◌≡◌, ◌==◌, ◌&&◌, ◌-◌, ◌<◌, map, length, reverse, IfOk, OnOk, OnErr};
+ghost use Rattle.std.specs.Cmp.Lexicographic.{pointwise};
+ghost use Rattle.knox_words.specs.Lists.{fit};
+ghost use Rattle.knox_circuit.specs.declared.circuit.Port.{Port};
+ghost use Rattle.knox_circuit.specs.Circuit.{cells_of, input_widths};
+ghost use Rattle.knox_circuit.specs.Ports.{outputs_of};
+ghost use Rattle.knox_circuit.specs.States.{words_in};
+ghost use Rattle.knox_lang.specs.Fitting.{fits_driver};
+ghost use Rattle.driver_machine.specs.Drive.{drive};
+ghost use Rattle.driver_machine.specs.Configs.{config_of, moved_of, said, run_at};
+ghost use Rattle.driver_machine.specs.Means.{means};
+ghost use Rattle.driver_machine.specs.Fits.{output_widths};
+
+use crate::config::DriverConfig;
+use crate::reply::{Moved, Reply};
+use knox_circuit::{Circuit, Port, State};
+use knox_lang::DriverProgram;
+use knox_words::{Word, Words};
+use std::alloc::{AllocError, Global};
+
+/// Does an operation's body on a state: the reply, and the state after it. A body whose `while`
+/// runs past its bound is stuck there. Where the driver has no such operation, the body is empty.
+/// Want of memory changes nothing.
+pub fn drive(
+    alloc: Global,
+    c: &Circuit,
+    d: &DriverProgram,
+    s: &mut State,
+    op: u32,
+    args: &[Word],
+) -> Result<Reply, AllocError>
+    requires { length s.old.words ≡ words_in (cells_of c.now.lines) }
+    ensures reply { IfOk result (λ r. r ≡ said (drive c.now.lines d.now op args.now s.old.words).0) }
+    ensures state { OnOk result (s.new.words ≡ (drive c.now.lines d.now op args.now s.old.words).1) }
+    ensures count { length s.new.words ≡ words_in (cells_of c.now.lines) }
+    ensures err { OnErr result (s.new ≡ s.old) }
+{
+    let words = s.words.copy(alloc)?;
+    let mut config = DriverConfig::start(alloc, c, d, State { words }, op, args)?;
+    let reply = run(alloc, c, d, &mut config)?;
+    *s = config.into_state();
+    Ok(reply)
+}
+
+/// Does what is left of a body.
+#[tactic(auto, using(crate::proofs::Ending::driving))]
+fn run(
+    alloc: Global,
+    c: &Circuit,
+    d: &DriverProgram,
+    config: &mut DriverConfig,
+) -> Result<Reply, AllocError>
+    requires { length (run_at config.old).cells ≡ words_in (cells_of c.now.lines) }
+    ensures reply { IfOk result (λ r. r ≡ said (means c.now.lines d.now (config_of d.now config.old)).0) }
+    ensures cells { OnOk result ((run_at config.new).cells ≡ (means c.now.lines d.now (config_of d.now config.old)).1) }
+    ensures count { length (run_at config.new).cells ≡ words_in (cells_of c.now.lines) }
+{
+    loop {
+        match config.step(alloc, c, d)? {
+            Moved::Ran => {}
+            Moved::Ticked => {}
+            Moved::Done(reply) => return Ok(reply),
+        }
+    }
+}
+
+/// Whether words have the widths of ports, one for one.
+fn words_fit(ports: &[Port], words: &[Word]) -> bool
+    ensures { result ≡ fit (map (λ (p : Port). p.width) ports.now) words.now }
+{
+    let mut left = ports;
+    let mut right = words;
+    while let Some((port, more)) = left.split_first() {
+        match right.split_first() {
+            Some((word, others)) if port.width == word.width() => {
+                left = more;
+                right = others;
+            }
+            _ => return false,
+        }
+    }
+    right.is_empty()
+}
+
+/// Whether ports have these widths, one for one.
+fn ports_fit(ports: &[Port], widths: &[u8]) -> bool
+    ensures { result ≡ pointwise (λ v w. v == w) (map (λ (p : Port). p.width) ports.now) widths.now }
+{
+    let mut left = ports;
+    let mut right = widths;
+    while let Some((port, more)) = left.split_first() {
+        match right.split_first() {
+            Some((width, others)) if port.width == *width => {
+                left = more;
+                right = others;
+            }
+            _ => return false,
+        }
+    }
+    right.is_empty()
+}
+
+/// Whether a driver is one of a circuit: it has an idle word for each input, knows the widths of
+/// the outputs, and says of each cell whether it is persistent.
+pub fn fits_driver(c: &Circuit, d: &DriverProgram) -> bool
+    ensures { result ≡ fits_driver (input_widths c.now.lines) (output_widths c.now.lines) (length (cells_of c.now.lines)) d.now }
+{
+    let parts = d.parts();
+    words_fit(c.inputs(), d.idle())
+        && ports_fit(c.outputs_list(), parts.outs.as_slice())
+        && d.keep().len() == c.cells().len()
+}
