@@ -1,23 +1,27 @@
 -- A device's design is lawful, from the laws of its circuit and of its programs.
-use Rattle.std.proofs.Common.{◌≡◌, ℕ, zero, suc, ◌<◌, ◌==◌, ◌&&◌, List, [], ◌∷◌, Bool, true, false, not, refl, ap, sym, ◌∙◌, subst, Option, Some, None, map, length, slice_get, eqb-true, arith}
+use Rattle.std.proofs.Common.{◌≡◌, ℕ, zero, suc, ◌<◌, ◌==◌, ◌&&◌, List, [], ◌∷◌, Bool, true, false, not, is_none, refl, ap, sym, ◌∙◌, subst, Option, Some, None, map, length, slice_get, eqb-true, arith}
+use Rattle.std.specs.List.{list_all}
 use Rattle.knox_words.specs.Bits.{Bits, IsWord}
 use Rattle.knox_words.specs.Lists.{Words, fit, fits}
 use Rattle.knox_words.proofs.Lists.{fits-from}
 use Rattle.knox_theory.specs.Lawful.{IsCircuit, IsSpecification, IsEmulator, IsWireDesign}
+use Rattle.knox_circuit.specs.declared.circuit.Cell.{Cell}
 use Rattle.knox_circuit.specs.declared.circuit.Port.{Port}
 use Rattle.knox_circuit.specs.Circuit.{Circuit, cells_of, state_after_tick, state_widths, input_widths}
-use Rattle.knox_circuit.specs.Power.{factory_state, state_after_power, noise_widths, states_of, persistent_words, persistent_widths, spread_words}
+use Rattle.knox_circuit.specs.Power.{factory_state, state_after_power, noise_cells, noise_widths, states_of, persistent_words, persistent_widths, spread_words}
 use Rattle.knox_lang.specs.declared.parts.OpHead.{OpHead}
 use Rattle.knox_lang.specs.declared.parts.SpecParts.{SpecParts}
 use Rattle.knox_lang.specs.declared.parts.DriverParts.{DriverParts}
 use Rattle.knox_lang.specs.declared.parts.EmuParts.{EmuParts}
 use Rattle.knox_lang.specs.Operation.{op_after, op_result}
-use Rattle.knox_lang.specs.WellFormed.{word_widths, emulator_fits, spec_fits, IsTyped}
+use Rattle.knox_lang.specs.WellFormed.{word_widths, field_widths, emulator_fits, spec_fits, IsTyped}
 use Rattle.knox_lang.proofs.WidthLemmas.{and_first, and_second}
 use Rattle.knox_lang.proofs.OperationLemmas.{spec-is-typed}
 use Rattle.emu_machine.specs.Fits.{have_widths, words_fit, inputs, outputs, same_heads, fits_circuit, fits_specification, fits_emulator, takes_no_noise, fits_device}
 use Rattle.emu_machine.specs.Meaning.{head_args, head_result, device_of, design_of}
-use Rattle.emu_machine.proofs.AskingLemmas.{tick-asks-fit, tick-obeys, spec-init}
+use Rattle.cell_fields.specs.Fields.{name_cells}
+use Rattle.emu_machine.proofs.AskingLemmas.{tick-asks-fit, spec-init}
+use Rattle.emu_machine.proofs.PowerLemmas.{power-fits, names-widths}
 
 -- the widths of ports
 
@@ -51,6 +55,8 @@ pub record CircuitLaws (c : Circuit) (keep : List Bool) : Type 0 where
   pub kept : (state noise : Words) → fit (state_widths (cells_of c.lines)) state ≡ true → fit (noise_widths (states_of c.lines) keep) noise ≡ true → persistent_words (cells_of c.lines) keep (state_after_power c.lines keep state noise) ≡ persistent_words (cells_of c.lines) keep state
   pub fitting : (state : Words) → fit (state_widths (cells_of c.lines)) state ≡ true → fit (persistent_widths (cells_of c.lines) keep) (persistent_words (cells_of c.lines) keep state) ≡ true
   pub spread : (words : Words) → fit (persistent_widths (cells_of c.lines) keep) words ≡ true → fit (state_widths (cells_of c.lines)) (spread_words (cells_of c.lines) keep words) ≡ true
+  pub noise : state_widths (noise_cells c keep) ≡ noise_widths (states_of c.lines) keep
+  pub single : list_all (λ (x : Cell). is_none x.index) (noise_cells c keep) ≡ true
   pub back : (words : Words) → fit (persistent_widths (cells_of c.lines) keep) words ≡ true → persistent_words (cells_of c.lines) keep (spread_words (cells_of c.lines) keep words) ≡ words
 
 pub is-circuit : (c : Circuit) (s : SpecParts) (d : DriverParts) (e : EmuParts) → CircuitLaws c d.keep → fit (input_widths c.lines) d.idle ≡ true → IsCircuit (design_of c s d e)
@@ -99,11 +105,11 @@ no-words [] h = refl
 no-words (a ∷ as') h = cc
 
 pub is-emulator : (c : Circuit) (s : SpecParts) (d : DriverParts) (e : EmuParts) → spec_fits s ≡ true → emulator_fits e ≡ true → e.copy ≡ false → same_heads e.ops s.ops ≡ true → have_widths e.ins (inputs c) ≡ true →
-    IsEmulator (design_of c s d e)
+    field_widths e.noise ≡ noise_widths (states_of c.lines) d.keep → IsEmulator (design_of c s d e)
 unfolding design_of device_of
-is-emulator c s d e spec ok alone same ins = record {
+is-emulator c s d e spec ok alone same ins noises = record {
   first_kept = refl;
-  emu_power = λ noise kept f g. (tick-obeys e ok).init;
+  emu_power = λ noise kept f g. power-fits e noise ok alone (ap (λ ws. fit ws noise) noises ∙ f);
   copy_power = λ noise kept f g. record { taken = refl; whole = refl };
   kept_power = λ noise kept f g. no-words kept g;
   kept_of = λ emu f. refl;
@@ -111,11 +117,11 @@ is-emulator c s d e spec ok alone same ins = record {
 }
 
 pub is-wire-design : (c : Circuit) (s : SpecParts) (d : DriverParts) (e : EmuParts) → CircuitLaws c d.keep → fit (input_widths c.lines) d.idle ≡ true → spec_fits s ≡ true → emulator_fits e ≡ true → e.copy ≡ false →
-    same_heads e.ops s.ops ≡ true → have_widths e.ins (inputs c) ≡ true → IsWireDesign (design_of c s d e)
-is-wire-design c s d e laws idle spec ok alone same ins = record {
+    same_heads e.ops s.ops ≡ true → have_widths e.ins (inputs c) ≡ true → name_cells e.noise (noise_cells c d.keep) ≡ true → IsWireDesign (design_of c s d e)
+is-wire-design c s d e laws idle spec ok alone same ins noises = record {
   circuit = is-circuit c s d e laws idle;
   specification = is-specification c s d e spec;
-  emulator = is-emulator c s d e spec ok alone same ins;
+  emulator = is-emulator c s d e spec ok alone same ins (names-widths e.noise (noise_cells c d.keep) noises laws.single ∙ laws.noise);
 }
 
 -- what is known of parts that fit each other
@@ -125,6 +131,7 @@ pub record FitTogether (c : Circuit) (s : SpecParts) (d : DriverParts) (e : EmuP
   pub same : same_heads e.ops s.ops ≡ true
   pub ins : have_widths e.ins (inputs c) ≡ true
   pub alone : e.copy ≡ false
+  pub noise : name_cells e.noise (noise_cells c d.keep) ≡ true
   pub quiet : takes_no_noise c ≡ true
 
 not-true : (b : Bool) → not b ≡ true → b ≡ false
@@ -134,20 +141,23 @@ not-true false h = refl
 pub fit-together : (c : Circuit) (s : SpecParts) (d : DriverParts) (e : EmuParts) → fits_device c s d e ≡ true → FitTogether c s d e
 unfolding fits_device
 fit-together c s d e h =
-    let three : fits_circuit c d && fits_specification s d e && fits_emulator c e ≡ true = and_first _ (takes_no_noise c) h in
-    let both : fits_circuit c d && fits_specification s d e ≡ true = and_first _ (fits_emulator c e) three in
+    let three : fits_circuit c d && fits_specification s d e && fits_emulator c d.keep e ≡ true = and_first _ (takes_no_noise c) h in
+    let both : fits_circuit c d && fits_specification s d e ≡ true = and_first _ (fits_emulator c d.keep e) three in
     let circuit : fits_circuit c d ≡ true = and_first (fits_circuit c d) (fits_specification s d e) both in
     let spec : fits_specification s d e ≡ true = and_second (fits_circuit c d) (fits_specification s d e) both in
-    let emulator : fits_emulator c e ≡ true = and_second _ (fits_emulator c e) three in
+    let emulator : fits_emulator c d.keep e ≡ true = and_second _ (fits_emulator c d.keep e) three in
+    let named : _ && name_cells e.noise (noise_cells c d.keep) ≡ true = and_first _ (name_cells e.cells (cells_of c.lines)) emulator in
+    let shown : _ && not e.copy ≡ true = and_first _ (name_cells e.noise (noise_cells c d.keep)) named in
     let ports : words_fit (inputs c) d.idle && have_widths d.outs (outputs c) ≡ true = and_first _ (length d.keep == length (cells_of c.lines)) circuit in
     let heads : _ && same_heads e.ops s.ops ≡ true = and_first _ (length s.funs == 0) (and_first _ (length d.funs == 0) (and_first _ (length e.funs == 0) spec)) in
-    let wires : have_widths e.ins (inputs c) && have_widths e.outs (outputs c) ≡ true = and_first _ (length e.outputs == length (outputs c)) (and_first _ (not e.copy) (and_first _ (length e.power.stmts == 0) emulator)) in
+    let wires : have_widths e.ins (inputs c) && have_widths e.outs (outputs c) ≡ true = and_first _ (length e.outputs == length (outputs c)) (and_first _ (not e.copy) shown) in
     record {
       idle = and_first (words_fit (inputs c) d.idle) (have_widths d.outs (outputs c)) ports;
       keep = eqb-true (length d.keep) (length (cells_of c.lines)) (and_second _ (length d.keep == length (cells_of c.lines)) circuit);
       same = and_second _ (same_heads e.ops s.ops) heads;
       ins = and_first (have_widths e.ins (inputs c)) (have_widths e.outs (outputs c)) wires;
-      alone = not-true e.copy (and_second _ (not e.copy) (and_first _ (length e.power.stmts == 0) emulator));
+      alone = not-true e.copy (and_second _ (not e.copy) shown);
+      noise = and_second _ (name_cells e.noise (noise_cells c d.keep)) named;
       quiet = and_second _ (takes_no_noise c) h;
     }
 
@@ -155,7 +165,7 @@ pub parts-make-design : (c : Circuit) (s : SpecParts) (d : DriverParts) (e : Emu
     spec_fits s ≡ true → emulator_fits e ≡ true → fits_device c s d e ≡ true → fit (word_widths d.idle) d.idle ≡ true → IsWireDesign (design_of c s d e)
 parts-make-design c s d e laws spec ok fits own =
     let together = fit-together c s d e fits in
-    is-wire-design c s d e (laws together.keep) (idle-fits c d.idle together.idle own) spec ok together.alone together.same together.ins
+    is-wire-design c s d e (laws together.keep) (idle-fits c d.idle together.idle own) spec ok together.alone together.same together.ins together.noise
 
 -- a word is one of its own width
 pub word-goes : (a : Bits) (as' : Words) → IsWord a → fit (word_widths (a ∷ as')) (a ∷ as') ≡ fit (word_widths as') as'

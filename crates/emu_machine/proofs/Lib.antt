@@ -1,5 +1,6 @@
 pub mod TickLemmas
 pub mod DialogueLemmas
 pub mod AskingLemmas
+pub mod PowerLemmas
 pub mod DesignLemmas
 pub mod QuietLemmas

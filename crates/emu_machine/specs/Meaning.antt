@@ -12,7 +12,7 @@ use Rattle.knox_lang.specs.declared.parts.DriverParts.{DriverParts}
 use Rattle.knox_lang.specs.declared.parts.EmuParts.{EmuParts}
 use Rattle.knox_lang.specs.Operation.{op_after, op_result, arg_widths}
 use Rattle.knox_lang.specs.WellFormed.{word_widths}
-use Rattle.emu_machine.specs.Emulator.{emulator_outputs}
+use Rattle.emu_machine.specs.Emulator.{emulator_outputs, emulator_after_power}
 use Rattle.emu_machine.specs.Dialogue.{tick_dialogue}
 
 -- the widths of the arguments of an operation, and of its result; none where there is no such operation
@@ -43,7 +43,7 @@ device_of c s d e = record {
   initial = s.init;
   op = λ o args fields. (op_result s o fields args, op_after s o fields args);
   first_kept = [];
-  emu_power = λ noise kept. (e.init, []);
+  emu_power = λ noise kept. (emulator_after_power e noise, []);
   kept_of = λ emu. [];
   emu_outs = λ emu copy ins. emulator_outputs e emu ins;
   emu_tick = λ emu copy ins. tick_dialogue e emu ins;

@@ -1,24 +1,25 @@
-//! The emulator's outputs and its tick.
+//! The emulator's outputs, its power-on and its tick.
 ghost use Rattle.std.specs.Prelude.{◌≡◌, [], ◌∷◌, ◌++◌, map, IfOk, OnOk, OnErr};
 ghost use Rattle.knox_lang.specs.Operation.{start_of};
 ghost use Rattle.knox_lang.specs.Scope.{scope};
 ghost use Rattle.knox_lang.specs.Eval.{eval, values, called};
-ghost use Rattle.emu_machine.specs.Emulator.{body_words, emulator_outputs, emulator_after_tick, fields_after_tick};
+ghost use Rattle.emu_machine.specs.Emulator.{body_words, power_spaces, emulator_outputs, emulator_after_power, emulator_after_tick, fields_after_tick};
 
 use crate::answer::Answers;
-use knox_lang::{EmuProgram, Expr, Fun, Spaces, SpecProgram, SpecState};
+use knox_lang::{EmuProgram, Expr, Fun, NoQueries, Spaces, SpecProgram, SpecState};
 use knox_words::{Word, Words};
 use sqlite_items::Items;
 use std::alloc::{AllocError, Global};
 use std::mem;
 
-/// Room for the emulator's outputs and ticks. It is kept from one to the next, so that they take
-/// no memory of their own once it has grown.
+/// Room for the emulator's outputs, power-cycles and ticks. It is kept from one to the next, so
+/// that they take no memory of their own once it has grown.
 #[derive(Drop)]
 pub struct EmuRoom {
     own: Words,
     input: Words,
     local: Words,
+    noise: Words,
     fields: Words,
     bound: Words,
 }
@@ -61,6 +62,7 @@ impl EmuRoom {
             own: Words::new(alloc),
             input: Words::new(alloc),
             local: Words::new(alloc),
+            noise: Words::new(alloc),
             fields: Words::new(alloc),
             bound: Words::new(alloc),
         }
@@ -86,12 +88,61 @@ impl EmuRoom {
         Ok(spaces)
     }
 
+    /// The words that the body `power` sees, in the buffers of this room.
+    fn power_spaces(
+        &mut self,
+        alloc: Global,
+        p: &EmuProgram,
+        noise: &[Word],
+    ) -> Result<Spaces, AllocError>
+        ensures { IfOk result (λ sp. sp ≡ power_spaces p.now noise.now) }
+    {
+        let parts = p.parts();
+        let mut spaces = Spaces::new(alloc);
+        mem::swap(&mut spaces.own, &mut self.own);
+        mem::swap(&mut spaces.local, &mut self.local);
+        mem::swap(&mut spaces.noise, &mut self.noise);
+        spaces.own.copy_from(parts.init.as_slice())?;
+        spaces.noise.copy_from(noise)?;
+        start_into(parts.power.locals.as_slice(), &mut spaces.local)?;
+        Ok(spaces)
+    }
+
     /// Takes the buffers back.
     fn keep(&mut self, spaces: Spaces) {
         let mut spaces = spaces;
         mem::swap(&mut spaces.own, &mut self.own);
         mem::swap(&mut spaces.input, &mut self.input);
         mem::swap(&mut spaces.local, &mut self.local);
+        mem::swap(&mut spaces.noise, &mut self.noise);
+    }
+
+    /// Power-on with this noise: the emulator's words become what its body `power` makes of the
+    /// initial ones. Want of memory leaves them as they were.
+    pub fn power(
+        &mut self,
+        alloc: Global,
+        p: &EmuProgram,
+        noise: &[Word],
+        emu: &mut Words,
+    ) -> Result<(), AllocError>
+        ensures emu { OnOk result (emu.new ≡ emulator_after_power p.now noise.now) }
+        ensures err { OnErr result (emu.new ≡ emu.old) }
+    {
+        let mut seen = self.power_spaces(alloc, p, noise)?;
+        let parts = p.parts();
+        self.bound.clear();
+        knox_lang::exec_in(
+            alloc,
+            parts.power.stmts.as_slice(),
+            parts.funs.as_slice(),
+            &mut seen,
+            &mut self.bound,
+            &mut NoQueries::new(),
+        )?;
+        mem::swap(emu, &mut seen.own);
+        self.keep(seen);
+        Ok(())
     }
 
     /// The outputs that an emulator shows, in line order, for its words and those of the inputs.

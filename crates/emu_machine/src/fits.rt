@@ -1,10 +1,12 @@
 //! Whether the parts of a device fit each other.
 ghost use Rattle.std.specs.Prelude.{◌≡◌, ◌==◌, ◌&&◌};
 ghost use Rattle.std.specs.Str.{bytes_eq};
+ghost use Rattle.cell_fields.specs.Fields.{name_cells};
+ghost use Rattle.knox_circuit.specs.Power.{noise_cells};
 ghost use Rattle.emu_machine.specs.Fits.{same_args, same_head, same_heads, have_widths, words_fit, fits_circuit, fits_specification, fits_emulator, fits_device};
 
 use knox_circuit::{Circuit, Port};
-use knox_lang::{DriverParts, EmuParts, OpHead, SpecParts};
+use knox_lang::{DriverParts, EmuParts, Field, OpHead, SpecParts};
 use knox_words::Word;
 use sqlite_items::Items;
 
@@ -116,16 +118,31 @@ fn fits_specification(s: &SpecParts, d: &DriverParts, e: &EmuParts) -> bool
         && e.funs.is_empty()
 }
 
-/// Whether an emulator is one of this circuit, without a copy of it and with nothing to do at
-/// power-on.
-fn fits_emulator(c: &Circuit, e: &EmuParts) -> bool
-    ensures { result ≡ fits_emulator c.now e.now }
+/// Whether some fields name the noise words of a power-cycle that keeps some cells.
+fn name_noise(fields: &[Field], c: &Circuit, keep: &[bool]) -> bool
+    ensures { result ≡ name_cells fields.now (noise_cells c.now keep.now) }
+{
+    let mut cells = c.noise_walk(keep);
+    let mut left = fields;
+    while let Some((field, more)) = left.split_first() {
+        match cells.next() {
+            Some(next) if cell_fields::is_cell(field, next.cell, next.first) => left = more,
+            _ => return false,
+        }
+    }
+    cells.next().is_none()
+}
+
+/// Whether an emulator is one of this circuit, some cells of which are kept, without a copy of it.
+fn fits_emulator(c: &Circuit, keep: &[bool], e: &EmuParts) -> bool
+    ensures { result ≡ fits_emulator c.now keep.now e.now }
 {
     have_widths(e.ins.as_slice(), c.inputs())
         && have_widths(e.outs.as_slice(), c.outputs_list())
         && e.outputs.len() == c.outputs_list().len()
         && !e.copy
-        && e.power.stmts.is_empty()
+        && name_noise(e.noise.as_slice(), c, keep)
+        && cell_fields::name_cells(e.cells.as_slice(), c.cells())
 }
 
 /// Whether the parts of a device fit each other.
@@ -133,5 +150,8 @@ fn fits_emulator(c: &Circuit, e: &EmuParts) -> bool
 pub(crate) fn fits_device(c: &Circuit, s: &SpecParts, d: &DriverParts, e: &EmuParts) -> bool
     ensures { result ≡ fits_device c.now s.now d.now e.now }
 {
-    fits_circuit(c, d) && fits_specification(s, d, e) && fits_emulator(c, e) && c.takes_no_noise()
+    fits_circuit(c, d)
+        && fits_specification(s, d, e)
+        && fits_emulator(c, d.keep.as_slice(), e)
+        && c.takes_no_noise()
 }

@@ -48,7 +48,9 @@ fn words_have_widths(words: &[Word])
 pub fn parts_make_designs(c: &Circuit)
     ensures { (s : SpecParts) (d : DriverParts) (e : EmuParts) → spec_fits s ≡ true → emulator_fits e ≡ true → fits_device c.now s d e ≡ true → fit (word_widths d.idle) d.idle ≡ true → IsWireDesign (design_of c.now s d e) }
 {
+    knox_circuit::circuits_have_widths(c);
     knox_circuit::circuits_keep_widths(c);
+    knox_circuit::noise_cells_are_single_words(c);
     knox_circuit::power_keeps_persistent_words(c);
     knox_circuit::persistent_words_are_spread(c);
 }

@@ -1,6 +1,6 @@
 //! The emulator of a device, by its public calls.
 ghost use Rattle.std.specs.Prelude.{◌≡◌, None, IfOk, OnOk, OnErr};
-ghost use Rattle.emu_machine.specs.Emulator.{emulator_outputs, emulator_after_tick, fields_after_tick};
+ghost use Rattle.emu_machine.specs.Emulator.{emulator_outputs, emulator_after_power, emulator_after_tick, fields_after_tick};
 
 use crate::device::Device;
 use crate::emulator::EmuRoom;
@@ -16,15 +16,15 @@ pub struct EmuState {
     pub copy: Option<State>,
 }
 
-/// A fresh emulator after a power-cycle with this noise: its fields have their initial words.
+/// A fresh emulator after a power-cycle with this noise: its fields have their initial words, and
+/// then its body `power` runs.
 pub fn emu_power(alloc: Global, dev: &Device, n: &Noise) -> Result<EmuState, AllocError>
-    ensures { IfOk result (λ e. (e.words ≡ dev.now.emulator.init) × (e.copy ≡ None)) }
+    ensures { IfOk result (λ e. (e.words ≡ emulator_after_power dev.now.emulator n.now.words) × (e.copy ≡ None)) }
 {
-    let _ = n;
-    Ok(EmuState {
-        words: dev.emulator.parts().init.copy(alloc)?,
-        copy: None,
-    })
+    let mut room = EmuRoom::new(alloc);
+    let mut words = Words::new(alloc);
+    room.power(alloc, &dev.emulator, n.words.as_slice(), &mut words)?;
+    Ok(EmuState { words, copy: None })
 }
 
 /// The outputs that the emulator shows under these inputs, in line order.

@@ -116,6 +116,11 @@ cells-widths lines t keep h =
     ∙ (unknown-flat (known_words keep [] t.first_words) (cells_of lines) 0 (cells-flat lines t h)
     ∙ sym (lines-noise lines t keep [] h)))
 
+pub cells-single : (lines : List Line) (t : Tables) (keep : List Bool) → IsTabled (reverse lines) t → list_all (λ (c : Cell). is_none c.index) (noise_cells (record { lines = lines }) keep) ≡ true
+cells-single lines t keep h =
+    ap (list_all (λ (c : Cell). is_none c.index)) (sym (noise-cells lines t keep h))
+    ∙ unknown-single (known_words keep [] t.first_words) t.cells 0 h.words
+
 pub noise-wide : (lines : List Line) (t : Tables) (keep : List Bool) → IsTabled (reverse lines) t → are_widths (state_widths (cells_of lines)) ≡ true → are_widths (noise_widths (states_of lines) keep) ≡ true
 noise-wide lines t keep h wide =
     ap are_widths (lines-noise lines t keep [] h) ∙ unknown-wide (known_words keep [] t.first_words) (state_widths (cells_of lines)) wide

@@ -10,6 +10,7 @@ ghost use Rattle.knox_circuit.specs.Whole.{is_complete, IsTabled};
 
 use crate::fault::{BtorFault, Why};
 use crate::line::Line;
+use crate::noise::{self, NoiseCells};
 use crate::table::Tables;
 use crate::{eval, first, power};
 use knox_words::{Word, Words};
@@ -294,18 +295,24 @@ impl Circuit {
         )
     }
 
-    /// The states whose words are noise words in a power-cycle that keeps some cells, in line
-    /// order: bare states, and cells without `init` that aren't kept. `first` is the place of a
-    /// state's first word among the noise words. The factory's are those where none is kept.
-    pub fn noise_cells(&self, keep: &[bool]) -> Result<Items<Cell>, AllocError>
-        ensures { IfOk result (λ found. found ≡ noise_cells self.now keep.now) }
+    /// Goes over the states whose words are noise words in a power-cycle that keeps some cells, in
+    /// line order: bare states, and cells without `init` that aren't kept. `first` is the place of
+    /// a state's first word among the noise words. The factory's are those where none is kept.
+    pub fn noise_walk<'a>(&'a self, keep: &'a [bool]) -> NoiseCells<'a>
+        ensures { result ≡ noise_cells self.now keep.now }
     {
-        let found = power::noise_cells(
-            self.alloc,
+        NoiseCells::new(
             keep,
             self.tables.first_words.as_slice(),
             self.tables.cells.as_slice(),
-        )?;
+        )
+    }
+
+    /// The same states, as cells of their own.
+    pub fn noise_cells(&self, keep: &[bool]) -> Result<Items<Cell>, AllocError>
+        ensures { IfOk result (λ found. found ≡ noise_cells self.now keep.now) }
+    {
+        let found = noise::gathered(self.alloc, self.noise_walk(keep))?;
         Ok(found)
     }
 

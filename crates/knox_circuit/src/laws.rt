@@ -63,3 +63,10 @@ pub fn cells_are_single_words(c: &Circuit)
 {
     let _tables = c.tables();
 }
+
+/// Each state of a circuit that takes noise words takes one.
+pub fn noise_cells_are_single_words(c: &Circuit)
+    ensures { (keep : List Bool) → list_all (λ (x : Cell). is_none x.index) (noise_cells c.now keep) ≡ true }
+{
+    let _tables = c.tables();
+}

@@ -14,6 +14,7 @@ mod line;
 mod look;
 mod naming;
 mod node;
+mod noise;
 mod power;
 mod table;
 
@@ -21,7 +22,9 @@ pub use circuit::{Cell, Circuit, Inputs, Noise, Port, Scratch, State};
 pub use draft::Draft;
 pub use fault::{BtorFault, Why};
 pub use laws::{
-    cells_are_single_words, circuits_have_widths, circuits_keep_widths, outputs_have_widths,
-    persistent_words_are_spread, power_keeps_persistent_words,
+    cells_are_single_words, circuits_have_widths, circuits_keep_widths,
+    noise_cells_are_single_words, outputs_have_widths, persistent_words_are_spread,
+    power_keeps_persistent_words,
 };
 pub use line::{Line, Shape};
+pub use noise::{NoiseCell, NoiseCells};

@@ -1,13 +1,11 @@
 //! The words of cells after a power-cycle, and the noise words that it takes.
-ghost use Rattle.std.specs.Prelude.{◌≡◌, ◌≤◌, [], if◌then◌else◌, drop, length, take, Some, IfOk};
+ghost use Rattle.std.specs.Prelude.{◌≡◌, [], if◌then◌else◌, drop, take, Some, IfOk};
 ghost use Rattle.knox_words.specs.Bits.{word_at};
 ghost use Rattle.knox_words.specs.Lists.{fit};
-ghost use Rattle.knox_circuit.specs.Filled.{known_words, filled, unknown_widths, unknown_cells};
+ghost use Rattle.knox_circuit.specs.Filled.{known_words, filled, unknown_widths};
 ghost use Rattle.knox_circuit.specs.Power.{first_keep};
 
-use crate::circuit::Cell;
 use knox_words::{Word, Words};
-use sqlite_items::Items;
 use std::alloc::{AllocError, Global};
 
 /// Whether the first of some cells is kept.
@@ -21,7 +19,7 @@ fn first_keep(keep: &[bool]) -> bool
 }
 
 /// The truth values behind the first.
-fn other_keeps(keep: &[bool]) -> &[bool]
+pub fn other_keeps(keep: &[bool]) -> &[bool]
     ensures { result.now ≡ drop 1 keep.now }
 {
     match keep.split_first() {
@@ -52,7 +50,7 @@ fn one_word(words: &[Word]) -> &[Word]
 
 /// The word of the first cell that is known beforehand: its old word where it is kept, else the
 /// word of its `init`, where it has one.
-fn known_word(keep: &[bool], old: &[Word], first: Option<Word>) -> Option<Word>
+pub fn known_word(keep: &[bool], old: &[Word], first: Option<Word>) -> Option<Word>
     ensures { result ≡ (if first_keep keep.now then Some (word_at old.now 0) else first) }
 {
     if first_keep(keep) {
@@ -117,48 +115,4 @@ pub fn fits_noise(keep: &[bool], first: &[Option<Word>], widths: &[u8], noise: &
         sizes = more;
     }
     left.is_empty()
-}
-
-/// A cell whose words begin at another place.
-fn placed(alloc: Global, cell: &Cell, first: u32) -> Result<Cell, AllocError>
-    ensures { IfOk result (λ c. c ≡ record cell.now { first = first }) }
-{
-    Ok(Cell {
-        name: Items::from_slice(alloc, cell.name.as_slice())?,
-        number: cell.number,
-        width: cell.width,
-        index: cell.index,
-        first,
-    })
-}
-
-/// The cells that take noise words at a power-cycle, in order, each with the place of its word
-/// among them.
-#[tactic(auto, using(crate::proofs::Filling::filling_steps))]
-pub fn noise_cells(
-    alloc: Global,
-    keep: &[bool],
-    first: &[Option<Word>],
-    cells: &[Cell],
-) -> Result<Items<Cell>, AllocError>
-    requires { length cells.now ≤ 1000000 }
-    ensures { IfOk result (λ found. found ≡ unknown_cells (known_words keep.now [] first.now) cells.now 0) }
-{
-    let mut found = Items::new(alloc);
-    let mut keeps = keep;
-    let mut firsts = first;
-    let mut left = cells;
-    while let Some((word, others)) = firsts.split_first() {
-        let Some((cell, more)) = left.split_first() else {
-            return Ok(found);
-        };
-        if known_word(keeps, &[], *word).is_none() {
-            let place = found.len() as u32;
-            found.push(placed(alloc, cell, place)?)?;
-        }
-        keeps = other_keeps(keeps);
-        firsts = others;
-        left = more;
-    }
-    Ok(found)
 }

@@ -22,7 +22,7 @@ use Rattle.knox_lang.proofs.StmtLemmas.{stmts-keep}
 abbrev Good : Unit {0} → Type 0
 Good a = Unit {0}
 
-no-answers : AnswersFit (Unit {0}) no_queries [] Good
+pub no-answers : AnswersFit (Unit {0}) no_queries [] Good
 no-answers = record { replies = λ a k h args g e f. absurd (none k h e); stays = λ a k h args g e f. tt }
   where
     none : (k : ℕ) (h : OpHead) → slice_get [] k ≡ Some h → ⊥

@@ -9,6 +9,7 @@ use Rattle.knox_circuit.specs.declared.circuit.Cell.{Cell}
 use Rattle.knox_circuit.specs.Ports.{inputs_of, outputs_of}
 use Rattle.knox_circuit.specs.Circuit.{Circuit, cells_of}
 use Rattle.knox_circuit.specs.Power.{noise_cells}
+use Rattle.cell_fields.specs.Fields.{cell_field}
 use Rattle.knox_lang.specs.declared.expr.Expr.{Expr}
 use Rattle.knox_lang.specs.declared.expr.Expr.TheVariants.{Lit}
 use Rattle.knox_lang.specs.declared.expr.Space.TheVariants.{Own}
@@ -72,9 +73,6 @@ shown_by names ports ts = do
   Ok (filled es (zero_outputs ports))
 
 -- ---- parts
-
-abbrev pub cell_field : Cell → Field
-cell_field c = record { name = c.name; width = c.width; index = c.index; first = c.first }
 
 -- the names that outputs see: fields and inputs
 abbrev pub scope : List Field → List Port → List Named

@@ -1,8 +1,8 @@
 //! Emulators: `(emulator (field x w n) .. (power (local x w) .. stmt ..) (outputs (x e) ..) (tick (local
 //! x w) .. stmt ..))`, where each part may be left out.
-ghost use Rattle.std.specs.Prelude.{◌≡◌, IfOk, map};
+ghost use Rattle.std.specs.Prelude.{◌≡◌, IfOk};
 ghost use Rattle.expr_read.specs.Views.{Gives};
-ghost use Rattle.lang_read.specs.Emulators.{alone, entered, entry_in, outputs_entry, entries, zero_outputs, shown_by, cell_field, scope, power_scope, power_in, power_of, tick_in, tick_of, all_bodies, outside_of, together, bodies_behind, emulator_in, emulator_made, emulator_at, emulator_of, emulator_text};
+ghost use Rattle.lang_read.specs.Emulators.{alone, entered, entry_in, outputs_entry, entries, zero_outputs, shown_by, scope, power_scope, power_in, power_of, tick_in, tick_of, all_bodies, outside_of, together, bodies_behind, emulator_in, emulator_made, emulator_at, emulator_of, emulator_text};
 
 use crate::body::{MOST_COST, empty_body, silent_body};
 use crate::driver::widths_of;
@@ -23,22 +23,6 @@ use knox_text::Place;
 use knox_words::word_or;
 use sqlite_items::Items;
 use std::alloc::{AllocError, Global};
-
-/// The circuit's cells as fields.
-fn cells_of(alloc: Global, cells: &[Cell]) -> Result<Items<Field>, AllocError>
-    ensures { IfOk result (λ fields. fields ≡ map cell_field cells.now) }
-{
-    let mut fields = Items::new(alloc);
-    for cell in cells {
-        fields.push(Field {
-            name: Items::from_slice(alloc, cell.name.as_slice())?,
-            width: cell.width,
-            index: cell.index,
-            first: cell.first,
-        })?;
-    }
-    Ok(fields)
-}
 
 /// An expression that stands in no body.
 fn alone(alloc: Global, tree: &Tree, width: u8, names: &[Named]) -> Result<Expr, LangFault>
@@ -266,8 +250,8 @@ fn outside_of(
     Ok(Outside {
         ins: widths_of(alloc, c.inputs())?,
         outs: widths_of(alloc, c.outputs_list())?,
-        noise: cells_of(alloc, noise)?,
-        cells: cells_of(alloc, c.cells())?,
+        noise: cell_fields::fields_of(alloc, noise)?,
+        cells: cell_fields::fields_of(alloc, c.cells())?,
         ops: copied_ops(alloc, s.ops())?,
     })
 }

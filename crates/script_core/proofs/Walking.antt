@@ -11,6 +11,7 @@ use Rattle.knox_lang.specs.declared.expr.Expr.{Expr}
 use Rattle.knox_lang.specs.declared.parts.Fun.{Fun}
 use Rattle.knox_lang.specs.WellFormed.{word_widths}
 use Rattle.emu_machine.specs.declared.device.Device.{Device}
+use Rattle.emu_machine.specs.Emulator.{emulator_after_power}
 use Rattle.emu_machine.specs.Meaning.{design_of, device_of}
 use Rattle.script_core.specs.declared.parts.Act.{Act}
 use Rattle.script_core.specs.declared.parts.Act.TheVariants as act
@@ -129,7 +130,7 @@ module _ (v : Device) (p : ScriptParts) where
   started_in fields kept = record {
     fields = fields;
     cells = state_after_power v.circuit.lines v.driver.keep (spread_words (cells_of v.circuit.lines) v.driver.keep kept) [];
-    emu = v.emulator.init;
+    emu = emulator_after_power v.emulator [];
     copy = [];
   }
 

@@ -4,6 +4,7 @@ ghost use Rattle.knox_words.specs.Lists.{fit};
 ghost use Rattle.knox_theory.specs.WireSegments.{same_outs, ticked, is_refined};
 ghost use Rattle.knox_circuit.specs.Circuit.{cells_of, state_widths, input_widths};
 ghost use Rattle.knox_circuit.specs.Power.{persistent_words, spread_words, state_after_power};
+ghost use Rattle.emu_machine.specs.Emulator.{emulator_after_power};
 ghost use Rattle.script_core.specs.declared.parts.Item.{Item};
 ghost use Rattle.script_core.specs.declared.parts.ScriptParts.{ScriptParts};
 ghost use Rattle.script_core.specs.Hints.{refines, section_items, holds, seen};
@@ -174,7 +175,7 @@ impl Room {
         requires { fit (state_widths (cells_of dev.now.circuit.lines)) self.old.spread ≡ true }
         ensures cells { OnOk result (self.new.device.words ≡ state_after_power dev.now.circuit.lines dev.now.driver.keep self.old.spread []) }
         ensures fit { OnOk result (fit (state_widths (cells_of dev.now.circuit.lines)) self.new.device.words ≡ true) }
-        ensures emu { OnOk result (self.new.emulator ≡ dev.now.emulator.init) }
+        ensures emu { OnOk result (self.new.emulator ≡ emulator_after_power dev.now.emulator []) }
         ensures fields { self.new.fields ≡ self.old.fields }
         ensures made { made_for self.new ≡ made_for self.old }
     {
@@ -186,8 +187,12 @@ impl Room {
         };
         mem::swap(&mut self.device.words, &mut self.spread);
         self.device = dev.circuit.power(dev.driver.keep(), &self.device, &noise)?;
-        self.emulator
-            .copy_from(dev.emulator.parts().init.as_slice())?;
+        self.emulation.power(
+            alloc,
+            &dev.emulator,
+            noise.words.as_slice(),
+            &mut self.emulator,
+        )?;
         Ok(())
     }
 
