@@ -24,7 +24,8 @@ use Rattle.driver_machine.specs.Means.{means}
 use Rattle.driver_machine.specs.Lawful.{HasOp, HasDriver}
 use Rattle.driver_machine.proofs.Meaning.{start-means}
 use Rattle.driver_machine.proofs.Moving.{ended-move, ended-tests, finish-over, finish-means}
-use Rattle.driver_machine.proofs.Keeping.{both, KeepsWidths, run_fits-parts, run_fits-all, on-fits, body-step}
+use Rattle.driver_machine.proofs.Keeping.{KeepsWidths, run_fits-parts, run_fits-all, body-step}
+use Rattle.driver_machine.proofs.Items.{both, on-fits}
 
 widths-of : (ws : List ℕ) (as' : Words) → fit ws as' ≡ true → word_widths as' ≡ ws
 widths-of [] [] h = refl
@@ -100,7 +101,7 @@ module _ (lines : List Line) (d : DriverParts) (k : Known lines d) where
       let rest = and_second (are_widths (arg_widths h)) (stmts && result) ok in
       let body = and_first stmts result rest in
       let locals = start-fit b.locals (and_first (are_widths (local_widths b)) (stmts_fit d.funs ws (driver_leave d) b.stmts []) body) in
-      let items = on-fits lines d h b args k.give k.keeps k.ins fa [] b.stmts refl (and_second (are_widths (local_widths b)) (stmts_fit d.funs ws (driver_leave d) b.stmts []) body) in
+      let items = on-fits d ws [] b.stmts refl (and_second (are_widths (local_widths b)) (stmts_fit d.funs ws (driver_leave d) b.stmts []) body) in
       let more = result && items_fit d ws (on [] b.stmts) in
       both (run_fits lines b (first_run d (Some b) cells)) (fit (arg_widths h) args && more)
       (run_fits-all lines b (first_run d (Some b) cells) (record { cells = fc; inputs = k.idle; locals = locals }))

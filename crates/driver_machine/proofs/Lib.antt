@@ -6,5 +6,7 @@ pub mod Lowers
 pub mod Steps
 pub mod Ending
 pub mod Moving
+pub mod Items
 pub mod Keeping
+pub mod Placed
 pub mod Lawfully

@@ -1,5 +1,5 @@
 //! A driver on its way through a body.
-ghost use Rattle.std.specs.Prelude.{◌≡◌, ◌-◌, ◌≤◌, ◌++◌, [], ◌∷◌, map, length, Option, Some, None, IfOk, OnOk, OnErr};
+ghost use Rattle.std.specs.Prelude.{◌≡◌, ◌-◌, ◌≤◌, ◌++◌, [], ◌∷◌, map, length, ℕ, List, Option, Some, None, IfOk, OnOk, OnErr};
 ghost use Rattle.std.specs.Option.{option_copied};
 ghost use Rattle.knox_circuit.specs.Circuit.{cells_of};
 ghost use Rattle.knox_circuit.specs.States.{words_in};
@@ -8,8 +8,10 @@ ghost use Rattle.driver_machine.specs.Drive.{locals_of, result_of, stmts_of};
 ghost use Rattle.driver_machine.specs.Left.{start, step};
 ghost use Rattle.driver_machine.specs.Sight.{setting, result_value};
 ghost use Rattle.driver_machine.specs.Begins.{run_in};
-ghost use Rattle.driver_machine.specs.Configs.{config_of, moved_of, run_at, with_word, with_local, LowersParts};
+ghost use Rattle.driver_machine.specs.Configs.{config_of, moved_of, run_at, with_word, with_local, LowersParts, words_fit};
 ghost use Rattle.driver_machine.specs.Moves.{parts_left};
+ghost use Rattle.driver_machine.specs.Fits.{fits_config};
+ghost use Rattle.knox_words.specs.Lists.{fit};
 
 use crate::begin::do_part;
 use crate::part::Part;
@@ -17,7 +19,7 @@ use crate::position::Position;
 use crate::reply::{Moved, Reply};
 use crate::scene::Scene;
 use knox_circuit::{Circuit, Inputs, State};
-use knox_lang::{Body, DriverProgram, Expr, Fun, Stmt};
+use knox_lang::{Body, DriverProgram, Expr, Fun, OpHead, Stmt};
 use knox_words::{Word, Words};
 use sqlite_items::Items;
 use std::alloc::{AllocError, Global};
@@ -51,6 +53,24 @@ fn first_locals(alloc: Global, body: Option<&Body>) -> Result<Words, AllocError>
         Some(body) => zero_locals(alloc, body.locals.as_slice()),
         None => Ok(Words::new(alloc)),
     }
+}
+
+/// Whether words have the widths of the things named, one for one.
+fn named_fit(wanted: &[(Items<u8>, u8)], words: &[Word]) -> bool
+    ensures { result ≡ fit (map (λ (a : List ℕ × ℕ). a.1) wanted.now) words.now }
+{
+    let mut left = wanted;
+    let mut right = words;
+    while let Some((want, more)) = left.split_first() {
+        match right.split_first() {
+            Some((word, others)) if word.width() == want.1 => {
+                left = more;
+                right = others;
+            }
+            _ => return false,
+        }
+    }
+    right.is_empty()
 }
 
 /// The statements of a body; none where there is no body.
@@ -167,6 +187,42 @@ impl DriverConfig {
         ensures { self.new ≡ with_local self.old local v }
     {
         self.scene.locals.put(local as usize, v);
+    }
+
+    /// Whether this is a place of a body of the driver, with words of the right widths: what is left
+    /// of the body obeys the rules of the language, and cells and inputs are those of the circuit.
+    #[tactic(auto, using(crate::proofs::Placed::placing))]
+    pub fn fits_config(&self, c: &Circuit, d: &DriverProgram) -> bool
+        ensures { result ≡ fits_config c.now.lines d.now self.now.op (config_of d.now self.now) }
+    {
+        d.is_well_formed();
+        let parts = d.parts();
+        let head = sqlite_items::at(parts.ops.as_slice(), self.op as usize);
+        let body = sqlite_items::at(parts.bodies.as_slice(), self.op as usize);
+        match (head, body) {
+            (Some(head), Some(body)) => self.fits_body(c, head, body),
+            _ => false,
+        }
+    }
+
+    /// Whether the words have the widths of an operation and of its body, which is one of a driver.
+    fn fits_body(&self, c: &Circuit, head: &OpHead, body: &Body) -> bool
+        ensures { result ≡ words_fit c.now.lines head.now body.now self.now }
+    {
+        if !c.fits_state(&self.scene.state) {
+            return false;
+        }
+        if !c.fits_inputs(&self.scene.inputs) {
+            return false;
+        }
+        if !named_fit(body.locals.as_slice(), self.scene.locals.as_slice()) {
+            return false;
+        }
+        match self.reply {
+            Some(Reply::Value(word)) => word.width() == head.result,
+            Some(Reply::Stuck) => true,
+            None => named_fit(head.args.as_slice(), self.scene.args.as_slice()),
+        }
     }
 
     /// Does the next part of the body, of which only the result may be left. At the end it changes
