@@ -1,6 +1,6 @@
 -- Items of a body that obeys the rules are in order.
 use Rattle.std.proofs.Common.{◌≡◌, ℕ, zero, suc, ◌+◌, ◌≤◌, ◌&&◌, nat_lt, List, [], ◌∷◌, ◌++◌, length, Bool, true, false, if◌then◌else◌, refl, sym, ◌∙◌, ap, subst, arith}
-use Rattle.knox_words.specs.Bits.{Bits, word_or}
+use Rattle.knox_words.specs.Bits.{word_or}
 use Rattle.knox_words.specs.Lists.{Words, fit}
 use Rattle.knox_words.proofs.Lists.{fits-width}
 use Rattle.knox_lang.specs.declared.expr.Stmt.{Stmt}

@@ -1,8 +1,8 @@
 -- A step keeps what is left in order: it obeys the rules, and all words have their widths.
-use Rattle.std.proofs.Common.{◌≡◌, ℕ, zero, suc, ◌+◌, ◌≤◌, ◌&&◌, nat_lt, nat_le, List, [], ◌∷◌, ◌++◌, map, length, slice_get, slice_index, slice_set, eqb-true, Option, Some, None, Bool, true, false, if◌then◌else◌, refl, sym, ◌∙◌, ap, subst, arith}
-use Rattle.knox_words.specs.Bits.{Bits, word_or}
+use Rattle.std.proofs.Common.{◌≡◌, ℕ, zero, suc, ◌+◌, ◌&&◌, nat_le, List, [], ◌∷◌, ◌++◌, map, length, slice_get, slice_index, slice_set, eqb-true, Option, Some, None, Bool, true, false, if◌then◌else◌, refl, sym, ◌∙◌, ap, subst, arith}
+use Rattle.knox_words.specs.Bits.{Bits}
 use Rattle.knox_words.specs.Lists.{Words, fit, fits}
-use Rattle.knox_words.proofs.Lists.{fit-slice_set, fits-width}
+use Rattle.knox_words.proofs.Lists.{fit-slice_set}
 use Rattle.knox_theory.specs.Design.{Config}
 use Rattle.knox_circuit.specs.declared.line.Line.{Line}
 use Rattle.knox_circuit.specs.Circuit.{cells_of, state_widths, input_widths, output_words, state_after_tick}
@@ -19,9 +19,9 @@ use Rattle.knox_lang.specs.declared.scope.Spaces.{Spaces}
 use Rattle.knox_lang.specs.Scope.{put_in, scope}
 use Rattle.knox_lang.specs.Exec.{Does, does, stmt_level}
 use Rattle.knox_lang.specs.Operation.{no_queries, arg_widths}
-use Rattle.knox_lang.specs.Typing.{Widths, Leave, Obeys, width_of, is_width, turns_fit, input_fits, all_obey, obeys_under, stmt_fits_level, stmt_fits, stmts_fit, SpacesFit, FunsGive, AnswersFit}
+use Rattle.knox_lang.specs.Typing.{Widths, Obeys, width_of, is_width, turns_fit, input_fits, obeys_under, stmt_fits_level, stmts_fit, SpacesFit, FunsGive, AnswersFit}
 use Rattle.knox_lang.specs.WellFormed.{word_widths, local_widths, driver_leave, result_fits}
-use Rattle.knox_lang.proofs.WidthLemmas.{and_first, and_second, is_width-true, get-some, bound-fits, Turns, turns_fit-true, turn-fits, eval-has}
+use Rattle.knox_lang.proofs.WidthLemmas.{and_first, and_second, is_width-true, get-some, turns_fit-true, eval-has}
 use Rattle.knox_lang.proofs.StmtLemmas.{stmts-keep}
 use Rattle.driver_machine.specs.Sight.{Run, Setting, setting, sight, value, holds, result_value, set_local}
 use Rattle.driver_machine.specs.Left.{Item, Does as Statement, Again, Left, Rest, Over, on, turns_from, Next, Went, Ticks, NoTurns, AtResult, next_turn, begun, next, arrived, run_of, step_in, step}

@@ -10,3 +10,4 @@ pub mod Items
 pub mod Keeping
 pub mod Placed
 pub mod Lawfully
+pub mod Computed

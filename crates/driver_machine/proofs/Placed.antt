@@ -1,7 +1,7 @@
 -- What is left of a body at any position obeys the rules that the body obeys.
-use Rattle.std.proofs.Common.{◌≡◌, ℕ, zero, suc, ◌+◌, ◌-◌, ◌≤◌, ◌<◌, ◌&&◌, nat_lt, nat_le, List, [], ◌∷◌, ◌++◌, map, length, drop, slice_get, Option, Some, None, Bool, true, false, if◌then◌else◌, refl, sym, ◌∙◌, ap, subst, arith}
+use Rattle.std.proofs.Common.{◌≡◌, ℕ, zero, suc, ◌+◌, ◌-◌, ◌<◌, ◌&&◌, nat_lt, nat_le, List, [], ◌∷◌, ◌++◌, map, length, drop, slice_get, Option, Some, None, Bool, true, false, if◌then◌else◌, refl, sym, ◌∙◌, ap, subst, arith}
 use Rattle.std.proofs.lemmas.Bool.{ltb-true}
-use Rattle.knox_words.specs.Bits.{Bits, bits, is_word, word_or}
+use Rattle.knox_words.specs.Bits.{bits, is_word, word_or}
 use Rattle.knox_words.specs.Lists.{Words, fit, fits, are_widths}
 use Rattle.knox_words.proofs.Lists.{fit-both, fits-from, fits-width, is_word-IsWord}
 use Rattle.knox_lang.specs.declared.expr.Stmt.{Stmt, out-Stmt, fold_out-Stmt, map-Stmt}
@@ -11,7 +11,7 @@ use Rattle.knox_lang.specs.declared.parts.OpHead.{OpHead}
 use Rattle.knox_lang.specs.declared.parts.Body.{Body}
 use Rattle.knox_lang.specs.declared.parts.DriverParts.{DriverParts}
 use Rattle.knox_lang.specs.Operation.{arg_widths}
-use Rattle.knox_lang.specs.Typing.{Widths, Obeys, is_width, width_of, turns_fit, all_obey, obeys_under, funs_fit, stmt_fits_level, stmts_fit}
+use Rattle.knox_lang.specs.Typing.{Widths, Obeys, is_width, width_of, turns_fit, obeys_under, funs_fit, stmt_fits_level, stmts_fit}
 use Rattle.knox_lang.specs.WellFormed.{word_widths, local_widths, driver_leave, driver_fits, op_fits, ops_fit, statements_fit, result_fits}
 use Rattle.knox_lang.proofs.OperationLemmas.{BodyAt, ops_fit-at}
 use Rattle.knox_lang.proofs.WidthLemmas.{and_first, and_second, Turns, turns_fit-true, turn-fits}
@@ -22,7 +22,7 @@ use Rattle.driver_machine.specs.declared.position.Position.{Position}
 use Rattle.driver_machine.specs.declared.reply.Reply.{Reply}
 use Rattle.driver_machine.specs.declared.reply.Reply.TheVariants as reply
 use Rattle.driver_machine.specs.declared.config.DriverConfig.{DriverConfig}
-use Rattle.driver_machine.specs.Left.{Item, Again, on, turns_from, config}
+use Rattle.driver_machine.specs.Left.{Again, on, turns_from, config}
 use Rattle.driver_machine.specs.Configs.{config_of, left_of, run_at, reply_words_fit, words_fit}
 use Rattle.driver_machine.specs.Place.{Inner, inner_in, inner_of, Top, top, items_left}
 use Rattle.driver_machine.specs.Fits.{seen_widths, item_fits, items_fit, run_fits, left_fits, fits_body, fits_config}

@@ -65,8 +65,8 @@ fn begin(
             Ok(Part::Ran)
         }
         Stmt::While(e, n, _) => {
-            let w = scene.value(alloc, c, e, funs, bound)?;
-            if w.value() != 1 {
+            let holds = scene.value(alloc, c, e, funs, bound)?;
+            if holds.value() != 1 {
                 pos.bump();
                 return Ok(Part::Ran);
             }

@@ -4,6 +4,7 @@
 
 mod begin;
 mod config;
+mod examples;
 mod laws;
 mod part;
 mod position;
@@ -13,6 +14,7 @@ mod settle;
 mod whole;
 
 pub use config::DriverConfig;
-pub use laws::drivers_are_lawful;
+pub use examples::{bodies_reply, drivers_fit};
+pub use laws::{drivers_are_lawful, places_are_kept};
 pub use reply::{Moved, Reply};
 pub use whole::{drive, fits_driver};
