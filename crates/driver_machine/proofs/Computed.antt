@@ -36,13 +36,13 @@ answers g v (GoesOn run) = (Replied (v (scope (sight g run) [])), run.cells)
 answers g v (Stops run) = (OutOfTurns, run.cells)
 
 module _ (g : Setting) where
-  value-lit : (w : Bits) → eval g.calls (expr.Lit w) ≡ level g.calls (Expr-F.Lit w)
+  pub value-lit : (w : Bits) → eval g.calls (expr.Lit w) ≡ level g.calls (Expr-F.Lit w)
   value-lit w = ap (eval g.calls) (sym (expr.rolls-Lit w)) ∙ fold-roll-Expr Value (level g.calls) (Expr-F.Lit w)
 
-  value-name : (s : Slot) → eval g.calls (expr.Name s) ≡ level g.calls (Expr-F.Name s)
+  pub value-name : (s : Slot) → eval g.calls (expr.Name s) ≡ level g.calls (Expr-F.Name s)
   value-name s = ap (eval g.calls) (sym (expr.rolls-Name s)) ∙ fold-roll-Expr Value (level g.calls) (Expr-F.Name s)
 
-  value-not : (a : Expr) (v : Value) → eval g.calls a ≡ v → eval g.calls (expr.Un Not a) ≡ level g.calls (Expr-F.Un Not v)
+  pub value-not : (a : Expr) (v : Value) → eval g.calls a ≡ v → eval g.calls (expr.Un Not a) ≡ level g.calls (Expr-F.Un Not v)
   value-not a v e =
       ap (eval g.calls) (sym (expr.rolls-Un Not a)) ∙ (fold-roll-Expr Value (level g.calls) (Expr-F.Un Not a) ∙ ap (λ (x : Value). level g.calls (Expr-F.Un Not x)) e)
 
@@ -61,19 +61,19 @@ module _ (g : Setting) where
       ∙ (fold-roll-Stmt Action (drive_level g) (Stmt-F.While c n body) ∙ (λ i. repeats g (is i) n (e i)))
 
   -- the values that the bodies name
-  abbrev constant : Bits → Value
+  abbrev pub constant : Bits → Value
   constant w = level g.calls (Expr-F.Lit w)
 
-  abbrev argument : Value
+  abbrev pub argument : Value
   argument = level g.calls (Expr-F.Name (record { space = space.Arg; number = 0 }))
 
-  abbrev shown : ℕ → Value
+  abbrev pub shown : ℕ → Value
   shown k = level g.calls (Expr-F.Name (record { space = space.Output; number = k }))
 
   abbrev kept : Value
   kept = level g.calls (Expr-F.Name (record { space = space.Local; number = 0 }))
 
-  abbrev busy : Value
+  abbrev pub busy : Value
   busy = level g.calls (Expr-F.Un Not (shown 1))
 
   abbrev ticks : Action

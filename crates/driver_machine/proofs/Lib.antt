@@ -11,3 +11,4 @@ pub mod Keeping
 pub mod Placed
 pub mod Lawfully
 pub mod Computed
+pub mod Walked

@@ -6,6 +6,7 @@ use Rattle.knox_words.specs.Bits.{bits}
 use Rattle.knox_words.specs.Lists.{Words}
 use Rattle.knox_words.specs.declared.op.Op1.TheVariants.{Not, Redor}
 use Rattle.knox_words.specs.declared.op.Op2.TheVariants.{Eq, And}
+use Rattle.knox_theory.specs.Design.{Config}
 use Rattle.knox_circuit.specs.declared.line.Shape.{Shape}
 use Rattle.knox_circuit.specs.declared.line.Shape.TheVariants as shape
 use Rattle.knox_circuit.specs.declared.line.Line.{Line}
@@ -18,6 +19,7 @@ use Rattle.knox_lang.specs.declared.expr.Space.TheVariants as space
 use Rattle.knox_lang.specs.declared.parts.OpHead.{OpHead}
 use Rattle.knox_lang.specs.declared.parts.Body.{Body}
 use Rattle.knox_lang.specs.declared.parts.DriverParts.{DriverParts}
+use Rattle.driver_machine.specs.Left.{Left, Rest, Does}
 
 abbrev pub line : (number : ℕ) → Shape → (symbol : List ℕ) → Line
 line n s symbol = record { number = n; at = n; shape = s; symbol = symbol }
@@ -80,16 +82,29 @@ check_body n = record {
   result = Some (name space.Local 0);
 }
 
+-- asks and doesn't wait: the result is what is shown at the end
+abbrev pub quick_body : Body
+quick_body = record { locals = []; stmts = commands 2 []; result = Some (name space.Output 0) }
+
 abbrev pub head : List ℕ → OpHead
 head n = record { name = n; args = (codes "v", 4) ∷ []; result = 1 }
 
--- the driver, whose operations are `set` and `check`
+-- the driver, whose operations are `set`, `check` and `quick`
 abbrev pub driver : (turns : ℕ) → DriverParts
 driver n = record {
   idle = bits 2 0 ∷ bits 4 0 ∷ [];
   keep = true ∷ false ∷ false ∷ [];
   outs = 1 ∷ 1 ∷ [];
   funs = [];
-  ops = head (codes "set") ∷ head (codes "check") ∷ [];
-  bodies = set_body n ∷ check_body n ∷ [];
+  ops = head (codes "set") ∷ head (codes "check") ∷ head (codes "quick") ∷ [];
+  bodies = set_body n ∷ check_body n ∷ quick_body ∷ [];
+}
+
+-- the driver before it waits, under the command 0
+abbrev pub waiting : (turns : ℕ) → (args cells : Words) → Config Left
+waiting n args words = record {
+  left = Rest (Does (stmt.While (expr.Un Not (name space.Output 1)) n (stmt.Tick ∷ [])) [] ∷ []) args (Some (expr.Lit (bits 1 1)));
+  cells = words;
+  inputs = bits 2 0 ∷ bits 4 9 ∷ [];
+  locals = [];
 }

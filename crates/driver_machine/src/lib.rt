@@ -14,7 +14,7 @@ mod settle;
 mod whole;
 
 pub use config::DriverConfig;
-pub use examples::{bodies_reply, drivers_fit};
+pub use examples::{bodies_move, bodies_reply, drivers_fit, tests_are_met};
 pub use laws::{drivers_are_lawful, places_are_kept};
 pub use reply::{Moved, Reply};
 pub use whole::{drive, fits_driver};
