@@ -2,7 +2,8 @@
 use Rattle.std.proofs.Common.{◌≡◌, ℕ, ◌+◌, ◌&&◌, Bool, true, false, List, [], ◌∷◌, ◌++◌, reverse, Option, Some, None, refl, sym, ◌∙◌, ap, append_assoc, if◌then◌else◌}
 use Rattle.std.proofs.Math.Bool.{and-false}
 use Rattle.std.proofs.lemmas.List.{reverse-append, append-nil}
-use Rattle.knox_text.specs.Lines.{lines, tokens}
+use Rattle.knox_text.specs.Lines.{lines}
+use Rattle.knox_text.specs.Tokens.{bare_tokens}
 use Rattle.knox_circuit.specs.declared.line.Line.{Line}
 use Rattle.knox_circuit.specs.Circuit.{Circuit}
 use Rattle.knox_circuit.specs.Form.{is_line}
@@ -52,15 +53,15 @@ grown-none before (Some ls) (Some others) e =
     ap circuit_among (sym (append_assoc before ls others)) ∙ unformed-none ((before ++ ls) ++ others) (unformed-more (before ++ ls) others bad)
 
 -- a text line is read
-pub row-read : (before after : List Line) (rest piece more : List ℕ) (at : ℕ) (circuit : Option Circuit) → lines rest ≡ piece ∷ lines more → grown before (row at (uncommented (tokens piece))) ≡ Some after → with_rest before (rows at (lines rest)) ≡ circuit → with_rest after (rows (at + 1) (lines more)) ≡ circuit
+pub row-read : (before after : List Line) (rest piece more : List ℕ) (at : ℕ) (circuit : Option Circuit) → lines rest ≡ piece ∷ lines more → grown before (row at (uncommented (bare_tokens piece))) ≡ Some after → with_rest before (rows at (lines rest)) ≡ circuit → with_rest after (rows (at + 1) (lines more)) ≡ circuit
 row-read before after rest piece more at circuit e g so_far =
-    grown-rest before after (row at (uncommented (tokens piece))) (rows (at + 1) (lines more)) g
+    grown-rest before after (row at (uncommented (bare_tokens piece))) (rows (at + 1) (lines more)) g
     ∙ (sym (ap (λ (ls : List (List ℕ)). with_rest before (rows at ls)) e) ∙ so_far)
 
 -- a text line is refused
-pub row-refused : (before : List Line) (rest piece more : List ℕ) (at : ℕ) (circuit : Option Circuit) → lines rest ≡ piece ∷ lines more → grown before (row at (uncommented (tokens piece))) ≡ None → with_rest before (rows at (lines rest)) ≡ circuit → circuit ≡ None
+pub row-refused : (before : List Line) (rest piece more : List ℕ) (at : ℕ) (circuit : Option Circuit) → lines rest ≡ piece ∷ lines more → grown before (row at (uncommented (bare_tokens piece))) ≡ None → with_rest before (rows at (lines rest)) ≡ circuit → circuit ≡ None
 row-refused before rest piece more at circuit e g so_far =
-    sym so_far ∙ (ap (λ (ls : List (List ℕ)). with_rest before (rows at ls)) e ∙ grown-none before (row at (uncommented (tokens piece))) (rows (at + 1) (lines more)) g)
+    sym so_far ∙ (ap (λ (ls : List (List ℕ)). with_rest before (rows at ls)) e ∙ grown-none before (row at (uncommented (bare_tokens piece))) (rows (at + 1) (lines more)) g)
 
 -- the end of the text
 

@@ -1,54 +1,38 @@
 -- Tokens, numbers and text lines, step by step.
-use Rattle.std.proofs.Common.{◌≡◌, ℕ, ◌<◌, ◌≤◌, ◌==◌, ◌&&◌, nat_lt, nat_le, min, Bool, true, false, List, [], ◌∷◌, ◌++◌, length, reverse, Option, Some, None, refl, sym, ◌∙◌, ap, arith, eqb-true, lt-ltb, inl, inr, ◌⊎◌, if◌then◌else◌}
-use Rattle.std.proofs.lemmas.Bool.{le-leb, lt-leb, le-ltb}
+use Rattle.std.proofs.Common.{◌≡◌, ℕ, ◌<◌, ◌≤◌, ◌==◌, ◌&&◌, nat_lt, nat_le, Bool, true, false, List, [], ◌∷◌, ◌++◌, length, reverse, Option, Some, None, refl, sym, ◌∙◌, ap, arith, eqb-true, lt-ltb, inl, inr, ◌⊎◌, if◌then◌else◌}
+use Rattle.std.proofs.lemmas.Bool.{lt-leb, le-ltb}
 use Rattle.std.proofs.lemmas.List.{reverse-append, append-nil}
-use Rattle.std.specs.Str.Parse.{digits_value}
 use Rattle.knox_text.specs.Lines.{begins_with}
+use Rattle.knox_text.specs.Tokens.{token, tokens, bare_tokens}
+use Rattle.knox_text.proofs.TokenLemmas.{bare-more, bare-none}
 use Rattle.knox_circuit.specs.declared.line.Shape.{Shape}
 use Rattle.knox_circuit.specs.declared.line.Line.{Line}
-use Rattle.knox_circuit.specs.Form.{all_digits, last_number, is_shape, is_line}
-use Rattle.btor_read.specs.Grammar.{◌>>=◌, Tokens, uncommented, number, number_at, shape_at, symbol_of, line_of, row, formed}
+use Rattle.knox_circuit.specs.Form.{last_number, is_shape, is_line}
+use Rattle.btor_read.specs.Grammar.{◌>>=◌, Tokens, uncommented, number_at, shape_at, symbol_of, line_of, row, formed}
 use Rattle.btor_read.specs.Growing.{above, grown}
 
 bool_cases : (b : Bool) → (b ≡ true) ⊎ (b ≡ false)
 bool_cases true = inl refl
 bool_cases false = inr refl
 
-pub uncommented-more : (all : Tokens) (t : List ℕ) (ts : Tokens) → all ≡ t ∷ ts → begins_with 59 t ≡ false → uncommented all ≡ t ∷ uncommented ts
+uncommented-more : (all : Tokens) (t : List ℕ) (ts : Tokens) → all ≡ t ∷ ts → begins_with 59 t ≡ false → uncommented all ≡ t ∷ uncommented ts
 uncommented-more [] t ts e h = cc
 uncommented-more (u ∷ us) t ts e h = let a : u ≡ t = cc in let b : us ≡ ts = cc in rw (a, b, h) refl
 
-pub uncommented-none : (all : Tokens) (t : List ℕ) (ts : Tokens) → all ≡ t ∷ ts → begins_with 59 t ≡ true → uncommented all ≡ []
+uncommented-none : (all : Tokens) (t : List ℕ) (ts : Tokens) → all ≡ t ∷ ts → begins_with 59 t ≡ true → uncommented all ≡ []
 uncommented-none [] t ts e h = cc
 uncommented-none (u ∷ us) t ts e h = let a : u ≡ t = cc in rw (a, h) refl
 
-pub ruleset token_steps = (uncommented-more, uncommented-none)
+pub token-next : (line rest bytes : List ℕ) (left : ℕ) → tokens line ≡ token left bytes ∷ tokens rest → begins_with 59 bytes ≡ false → uncommented (bare_tokens line) ≡ bytes ∷ uncommented (bare_tokens rest)
+token-next line rest bytes left e h = uncommented-more (bare_tokens line) bytes (bare_tokens rest) (bare-more line rest bytes left e) h
 
-pub number-long : (t : List ℕ) → 4294967295 < min (digits_value 10 t) 4294967296 → number t ≡ None
-number-long t h =
-    let big : 4294967295 < digits_value 10 t = omega (arith, h) in
-    elim (bool_cases (nat_lt 0 (length t) && all_digits t)) [
-      | inl y ↦ rw (y, lt-leb (digits_value 10 t) 4294967295 big) refl
-      | inr n ↦ rw n refl
-    ]
+pub token-comment : (line rest bytes : List ℕ) (left : ℕ) → tokens line ≡ token left bytes ∷ tokens rest → begins_with 59 bytes ≡ true → uncommented (bare_tokens line) ≡ []
+token-comment line rest bytes left e h = uncommented-none (bare_tokens line) bytes (bare_tokens rest) (bare-more line rest bytes left e) h
 
-pub number-is : (t : List ℕ) (n : ℕ) → 0 < length t → all_digits t ≡ true → n ≡ min (digits_value 10 t) 4294967296 → n ≤ 4294967295 → number t ≡ Some n
-number-is t n a b c d =
-    let small : digits_value 10 t ≤ 4294967295 = omega (arith, c, d) in
-    let same : digits_value 10 t ≡ n = omega (arith, c, d) in
-    rw (lt-ltb 0 (length t) a, b, le-leb (digits_value 10 t) 4294967295 small) (ap (λ (k : ℕ). Some k) same)
+pub token-none : (line : List ℕ) → tokens line ≡ [] → uncommented (bare_tokens line) ≡ []
+token-none line e = ap uncommented (bare-none line e)
 
-pub number-letters : (t : List ℕ) → all_digits t ≡ false → number t ≡ None
-number-letters t h = elim (bool_cases (nat_lt 0 (length t))) [
-  | inl y ↦ rw (y, h) refl
-  | inr n ↦ rw n refl
-]
-
-pub number-nothing : (t : List ℕ) → length t ≡ 0 → number t ≡ None
-number-nothing [] h = refl
-number-nothing (b ∷ t) h = absurd (omega (arith, h))
-
-pub ruleset number_steps = (number-long, number-is, number-letters, number-nothing)
+pub ruleset token_steps = (token-next, token-comment, token-none)
 
 -- symbols
 

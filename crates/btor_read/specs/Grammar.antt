@@ -2,17 +2,18 @@
 -- Standard: BTOR2 (Niemetz, Preiner, Wolf and Biere, CAV 2018).
 -- The project's own: a comment begins with a token that begins with `;`; a number has at most the
 -- value 4,294,967,295; of sorts, constants and operators those of the first form alone.
-use Rattle.std.specs.Prelude.{ℕ, ◌+◌, ◌&&◌, nat_lt, nat_le, ℤ, pos, Bool, true, if◌then◌else◌, List, [], ◌∷◌, ◌++◌, length, reverse, codes, Option, Some, None}
+use Rattle.std.specs.Prelude.{ℕ, ◌+◌, ◌&&◌, ℤ, pos, Bool, true, if◌then◌else◌, List, [], ◌∷◌, ◌++◌, reverse, codes, Option, Some, None}
 use Rattle.std.specs.Str.{bytes_eq}
-use Rattle.std.specs.Str.Parse.{digits_value}
 use Rattle.knox_words.specs.declared.op.Op1.TheVariants as un
 use Rattle.knox_words.specs.declared.op.Op2.TheVariants as bin
-use Rattle.knox_text.specs.Lines.{begins_with, lines, tokens}
+use Rattle.knox_text.specs.Lines.{begins_with, lines}
+use Rattle.knox_text.specs.Numbers.{natural, at_most}
+use Rattle.knox_text.specs.Tokens.{bare_tokens}
 use Rattle.knox_circuit.specs.declared.line.Shape.{Shape}
 use Rattle.knox_circuit.specs.declared.line.Shape.TheVariants as shape
 use Rattle.knox_circuit.specs.declared.line.Line.{Line}
 use Rattle.knox_circuit.specs.Circuit.{Circuit}
-use Rattle.knox_circuit.specs.Form.{all_digits, is_line}
+use Rattle.knox_circuit.specs.Form.{is_line}
 use Rattle.knox_circuit.specs.Whole.{is_complete}
 use Rattle.btor_read.specs.declared.keyword.Keyword.{Keyword}
 use Rattle.btor_read.specs.declared.keyword.Keyword.TheVariants as key
@@ -32,11 +33,8 @@ uncommented (t ∷ ts) = if begins_with 59 t then [] else t ∷ uncommented ts
 
 -- ---- numbers and keywords
 
-abbrev pub is_number : List ℕ → Bool
-is_number t = nat_lt 0 (length t) && all_digits t && nat_le (digits_value 10 t) 4294967295
-
 abbrev pub number : List ℕ → Option ℕ
-number t = if is_number t then Some (digits_value 10 t) else None
+number t = at_most 4294967295 (natural t)
 
 abbrev pub keyword : List ℕ → Option Keyword
 keyword t =
@@ -114,7 +112,7 @@ row at (t ∷ ts) = line_of at (t ∷ ts) >>= λ l. Some (l ∷ [])
 -- the lines that text lines mean, of which the first has this number
 abbrev pub rows : ℕ → List (List ℕ) → Option (List Line)
 rows at [] = Some []
-rows at (r ∷ rs) = row at (uncommented (tokens r)) >>= λ ls. rows (at + 1) rs >>= λ others. Some (ls ++ others)
+rows at (r ∷ rs) = row at (uncommented (bare_tokens r)) >>= λ ls. rows (at + 1) rs >>= λ others. Some (ls ++ others)
 
 abbrev pub lines_of : List ℕ → Option (List Line)
 lines_of text = rows 1 (lines text)

@@ -1,65 +1,18 @@
 //! The operands of a line's form.
-ghost use Rattle.std.specs.Prelude.{◌≡◌, ◌≢◌, ◌≤◌, ◌^◌, min, Some, None, IfOk, IfErr, length};
-ghost use Rattle.std.specs.Char.{digit_value};
-ghost use Rattle.std.specs.Str.Parse.{digits_value};
-ghost use Rattle.knox_circuit.specs.Form.{all_digits};
+ghost use Rattle.std.specs.Prelude.{◌≡◌, ◌≢◌, Some, None, IfOk, IfErr};
 ghost use Rattle.btor_read.specs.declared.keyword.Keyword.TheVariants.{Zero, Input, State, Init, Next, Output, Un, Bin};
-ghost use Rattle.btor_read.specs.Grammar.{number, number_at, node_at, pair_at, bitvec_at, constant_at, ite_at, rule};
+ghost use Rattle.btor_read.specs.Grammar.{number_at, node_at, pair_at, bitvec_at, constant_at, ite_at, rule};
 
 use crate::keyword::Keyword;
 use crate::tokens::Tokens;
 use knox_circuit::{Shape, Why};
+use knox_text::natural_at_most;
 use knox_words::{Op1, Op2};
 use sqlite_items::Items;
 use std::alloc::Global;
 
-/// The value of a digit or a letter, and 36 of another byte.
-fn digit_value(byte: u8) -> u8
-    ensures { result ≡ digit_value byte }
-{
-    match byte {
-        b'0'..=b'9' => byte - 48,
-        b'A'..=b'Z' => byte - 55,
-        b'a'..=b'z' => byte - 87,
-        _ => 36,
-    }
-}
-
-fn all_digits(token: &[u8]) -> bool
-    ensures { result ≡ all_digits token.now }
-{
-    token.iter().all(|d| digit_value(*d) < 10)
-}
-
-/// The number that decimal digits write, or 2 ^ 32 where it is above that.
-#[tactic(auto, using(std::proofs::lemmas::Int::Digits::digits_value_more))]
-fn decimal(digits: &[u8]) -> u64
-    ensures { result ≡ min (digits_value 10 digits.now) 4294967296 }
-{
-    let mut value = 0u64;
-    for d in digits {
-        value = (value * 10 + u64::from(digit_value(*d))).min(4294967296);
-    }
-    value
-}
-
-/// The number that a token writes, if it is one and at most 4,294,967,295.
-#[tactic(auto, using(crate::proofs::Rows::number_steps))]
-fn number(token: &[u8]) -> Option<u32>
-    ensures { result ≡ number token.now }
-{
-    if token.is_empty() {
-        return None;
-    }
-    if !all_digits(token) {
-        return None;
-    }
-    let value = decimal(token);
-    if value > 4294967295 {
-        return None;
-    }
-    Some(value as u32)
-}
+/// The greatest number of a text.
+const GREATEST: u32 = 4_294_967_295;
 
 /// The number that the next token writes.
 pub fn number_at(tokens: &mut Tokens, why: Why) -> Result<u32, Why>
@@ -68,7 +21,7 @@ pub fn number_at(tokens: &mut Tokens, why: Why) -> Result<u32, Why>
 {
     match tokens.next() {
         None => Err(Why::Operand),
-        Some(token) => match number(token) {
+        Some(token) => match natural_at_most(GREATEST, token) {
             None => Err(why),
             Some(n) => Ok(n),
         },

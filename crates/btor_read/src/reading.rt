@@ -1,6 +1,6 @@
 //! Reading a circuit, line after line.
 ghost use Rattle.std.specs.Prelude.{◌≡◌, ◌≢◌, ◌≤◌, ◌∷◌, ◌++◌, [], length, reverse, Some, None, true, IfOk, IfErr, OnOk};
-ghost use Rattle.knox_text.specs.Lines.{tokens};
+ghost use Rattle.knox_text.specs.Tokens.{bare_tokens};
 ghost use Rattle.knox_circuit.specs.Form.{last_number};
 ghost use Rattle.btor_read.specs.Grammar.{uncommented, shape_at, symbol_of, line_of, row, formed, circuit_of};
 ghost use Rattle.btor_read.specs.Growing.{above, grown};
@@ -76,10 +76,10 @@ fn line(alloc: Global, at: u32, last: u32, tokens: &mut Tokens) -> Result<Line, 
 fn read_line(alloc: Global, draft: &mut Draft, at: u32, last: u32, text: &[u8]) -> Result<u32, Why>
     requires form { formed (reverse draft.old.lines) ≡ true }
     requires last { last ≡ last_number (reverse draft.old.lines) }
-    ensures ok { OnOk result (grown draft.old.lines (row at (uncommented (tokens text.now))) ≡ Some draft.new.lines) }
+    ensures ok { OnOk result (grown draft.old.lines (row at (uncommented (bare_tokens text.now))) ≡ Some draft.new.lines) }
     ensures form { OnOk result (formed (reverse draft.new.lines) ≡ true) }
     ensures last { IfOk result (λ n. n ≡ last_number (reverse draft.new.lines)) }
-    ensures err { IfErr result (λ why. why ≢ Why.Memory → grown draft.old.lines (row at (uncommented (tokens text.now))) ≡ None) }
+    ensures err { IfErr result (λ why. why ≢ Why.Memory → grown draft.old.lines (row at (uncommented (bare_tokens text.now))) ≡ None) }
 {
     let mut tokens = Tokens::new(text);
     if tokens.is_empty() {

@@ -1,8 +1,9 @@
 //! The tokens of a line up to a comment, which goes to the end of the line.
 ghost use Rattle.std.specs.Prelude.{◌≡◌, ◌==◌, ◌∷◌, [], length, IfSome, IfNone};
-ghost use Rattle.knox_text.specs.Lines.{begins_with, tokens};
+ghost use Rattle.knox_text.specs.Tokens.{bare_tokens};
 ghost use Rattle.btor_read.specs.Grammar.{uncommented};
 
+use knox_text::begins_with;
 use std::marker::Model;
 
 /// The tokens of a line that are left. Contracts see them as a list.
@@ -12,28 +13,18 @@ pub struct Tokens<'a> {
 }
 
 impl<'a> Model for Tokens<'a> {
-    ghost use Rattle.knox_text.specs.Lines.{tokens};
+    ghost use Rattle.knox_text.specs.Tokens.{bare_tokens};
     ghost use Rattle.btor_read.specs.Grammar.{Tokens, uncommented};
 
     ghost Value = { Tokens };
 
-    ghost view = { λ t. uncommented (tokens t.rest.now) };
-}
-
-/// Whether a token begins a comment.
-fn begins_comment(token: &[u8]) -> bool
-    ensures { result ≡ begins_with 59 token.now }
-{
-    match token {
-        [] => false,
-        [byte, ..] => *byte == b';',
-    }
+    ghost view = { λ t. uncommented (bare_tokens t.rest.now) };
 }
 
 impl<'a> Tokens<'a> {
     /// The tokens of a line.
     pub fn new(line: &'a [u8]) -> Tokens<'a>
-        ensures { result ≡ uncommented (tokens line.now) }
+        ensures { result ≡ uncommented (bare_tokens line.now) }
     {
         Tokens { rest: line }
     }
@@ -48,11 +39,11 @@ impl<'a> Tokens<'a> {
             None => return None,
             Some(cut) => cut,
         };
-        if begins_comment(cut.piece) {
+        if begins_with(b';', cut.token.bytes) {
             return None;
         }
         self.rest = cut.rest;
-        Some(cut.piece)
+        Some(cut.token.bytes)
     }
 
     /// Whether no token is left.
@@ -62,7 +53,7 @@ impl<'a> Tokens<'a> {
     {
         match knox_text::cut_token(self.rest) {
             None => true,
-            Some(cut) => begins_comment(cut.piece),
+            Some(cut) => begins_with(b';', cut.token.bytes),
         }
     }
 }

@@ -15,7 +15,7 @@ use Rattle.knox_lang.specs.Operation.{op_after, op_result}
 use Rattle.knox_lang.specs.WellFormed.{word_widths, emulator_fits, spec_fits, IsTyped}
 use Rattle.knox_lang.proofs.WidthLemmas.{and_first, and_second}
 use Rattle.knox_lang.proofs.OperationLemmas.{spec-is-typed}
-use Rattle.emu_machine.specs.Fits.{have_widths, words_fit, inputs, outputs, same_heads, fits_circuit, fits_specification, fits_emulator, fits_device}
+use Rattle.emu_machine.specs.Fits.{have_widths, words_fit, inputs, outputs, same_heads, fits_circuit, fits_specification, fits_emulator, takes_no_noise, fits_device}
 use Rattle.emu_machine.specs.Meaning.{head_args, head_result, device_of, design_of}
 use Rattle.emu_machine.proofs.AskingLemmas.{tick-asks-fit, tick-obeys, spec-init}
 
@@ -125,6 +125,7 @@ pub record FitTogether (c : Circuit) (s : SpecParts) (d : DriverParts) (e : EmuP
   pub same : same_heads e.ops s.ops ≡ true
   pub ins : have_widths e.ins (inputs c) ≡ true
   pub alone : e.copy ≡ false
+  pub quiet : takes_no_noise c ≡ true
 
 not-true : (b : Bool) → not b ≡ true → b ≡ false
 not-true true h = cc
@@ -133,10 +134,11 @@ not-true false h = refl
 pub fit-together : (c : Circuit) (s : SpecParts) (d : DriverParts) (e : EmuParts) → fits_device c s d e ≡ true → FitTogether c s d e
 unfolding fits_device
 fit-together c s d e h =
-    let both : fits_circuit c d && fits_specification s d e ≡ true = and_first _ (fits_emulator c e) h in
+    let three : fits_circuit c d && fits_specification s d e && fits_emulator c e ≡ true = and_first _ (takes_no_noise c) h in
+    let both : fits_circuit c d && fits_specification s d e ≡ true = and_first _ (fits_emulator c e) three in
     let circuit : fits_circuit c d ≡ true = and_first (fits_circuit c d) (fits_specification s d e) both in
     let spec : fits_specification s d e ≡ true = and_second (fits_circuit c d) (fits_specification s d e) both in
-    let emulator : fits_emulator c e ≡ true = and_second _ (fits_emulator c e) h in
+    let emulator : fits_emulator c e ≡ true = and_second _ (fits_emulator c e) three in
     let ports : words_fit (inputs c) d.idle && have_widths d.outs (outputs c) ≡ true = and_first _ (length d.keep == length (cells_of c.lines)) circuit in
     let heads : _ && same_heads e.ops s.ops ≡ true = and_first _ (length s.funs == 0) (and_first _ (length d.funs == 0) (and_first _ (length e.funs == 0) spec)) in
     let wires : have_widths e.ins (inputs c) && have_widths e.outs (outputs c) ≡ true = and_first _ (length e.outputs == length (outputs c)) (and_first _ (not e.copy) (and_first _ (length e.power.stmts == 0) emulator)) in
@@ -146,6 +148,7 @@ fit-together c s d e h =
       same = and_second _ (same_heads e.ops s.ops) heads;
       ins = and_first (have_widths e.ins (inputs c)) (have_widths e.outs (outputs c)) wires;
       alone = not-true e.copy (and_second _ (not e.copy) (and_first _ (length e.power.stmts == 0) emulator));
+      quiet = and_second _ (takes_no_noise c) h;
     }
 
 pub parts-make-design : (c : Circuit) (s : SpecParts) (d : DriverParts) (e : EmuParts) → (length d.keep ≡ length (cells_of c.lines) → CircuitLaws c d.keep) →

@@ -6,6 +6,7 @@ use Rattle.knox_words.specs.Bits.{Bits}
 use Rattle.knox_circuit.specs.declared.circuit.Port.{Port}
 use Rattle.knox_circuit.specs.Ports.{inputs_of, outputs_of}
 use Rattle.knox_circuit.specs.Circuit.{Circuit, cells_of}
+use Rattle.knox_circuit.specs.Power.{states_of, noise_widths}
 use Rattle.knox_lang.specs.declared.parts.OpHead.{OpHead}
 use Rattle.knox_lang.specs.declared.parts.SpecParts.{SpecParts}
 use Rattle.knox_lang.specs.declared.parts.DriverParts.{DriverParts}
@@ -72,6 +73,10 @@ fits_emulator c e =
     have_widths e.ins (inputs c) && have_widths e.outs (outputs c) && length e.outputs == length (outputs c) && not e.copy
     && length e.power.stmts == 0
 
+-- a circuit whose factory takes no noise words, so that no power-cycle does. Scripts take none yet
+abbrev pub takes_no_noise : Circuit → Bool
+takes_no_noise c = length (noise_widths (states_of c.lines) []) == 0
+
 -- the parts of a device
 unfoldable pub fits_device : Circuit → SpecParts → DriverParts → EmuParts → Bool
-fits_device c s d e = fits_circuit c d && fits_specification s d e && fits_emulator c e
+fits_device c s d e = fits_circuit c d && fits_specification s d e && fits_emulator c e && takes_no_noise c

@@ -9,7 +9,7 @@ use knox_lang::{DriverProgram, EmuProgram, SpecProgram};
 /// A circuit, a specification, a driver and an emulator that fit each other: the driver's idle
 /// words, outputs and persistent cells are those of the circuit, the emulator's inputs and outputs
 /// too. The emulator's operations are those of the specification; so are the driver's, or it has
-/// none: it is for wires alone then.
+/// none: it is for wires alone then. The circuit takes no noise words yet.
 pub struct Device {
     pub circuit: Circuit,
     pub spec: SpecProgram,

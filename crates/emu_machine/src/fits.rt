@@ -144,5 +144,5 @@ fn fits_emulator(c: &Circuit, e: &EmuParts) -> bool
 pub(crate) fn fits_device(c: &Circuit, s: &SpecParts, d: &DriverParts, e: &EmuParts) -> bool
     ensures { result ≡ fits_device c.now s.now d.now e.now }
 {
-    fits_circuit(c, d) && fits_specification(s, d, e) && fits_emulator(c, e)
+    fits_circuit(c, d) && fits_specification(s, d, e) && fits_emulator(c, e) && c.takes_no_noise()
 }

@@ -1,10 +1,11 @@
 //! Laws of devices, as functions that do nothing.
-ghost use Rattle.std.specs.Prelude.{◌≡◌, List, [], true, false};
+ghost use Rattle.std.specs.Prelude.{◌≡◌, List, [], Bool, true, false};
 ghost use Rattle.knox_words.specs.Bits.{Bits};
 ghost use Rattle.knox_words.specs.Lists.{fit};
 ghost use Rattle.knox_theory.specs.Device.{answered};
 ghost use Rattle.knox_theory.specs.Lawful.{FitsAsking, IsWireDesign};
 ghost use Rattle.knox_circuit.specs.Circuit.{Circuit as Lines};
+ghost use Rattle.knox_circuit.specs.Power.{noise_widths, states_of};
 ghost use Rattle.knox_lang.specs.declared.parts.SpecParts.{SpecParts};
 ghost use Rattle.knox_lang.specs.declared.parts.DriverParts.{DriverParts};
 ghost use Rattle.knox_lang.specs.declared.parts.EmuParts.{EmuParts};
@@ -60,4 +61,11 @@ pub fn devices_are_designs(dev: &Device)
     dev.emulator.is_well_formed();
     words_have_widths(dev.driver.idle());
     parts_make_designs(&dev.circuit);
+}
+
+/// The factory of a device takes no noise words, and no power-cycle does, whatever it keeps.
+pub fn devices_take_no_noise(dev: &Device)
+    ensures { (keep : List Bool) → noise_widths (states_of dev.now.circuit.lines) keep ≡ [] }
+{
+    let _circuit = &dev.circuit;
 }

@@ -14,6 +14,7 @@ mod state;
 pub use device::Device;
 pub use emulator::EmuRoom;
 pub use laws::{
-    devices_are_designs, dialogue_is_the_tick, parts_make_designs, queries_are_of_operations,
+    devices_are_designs, devices_take_no_noise, dialogue_is_the_tick, parts_make_designs,
+    queries_are_of_operations,
 };
 pub use state::{EmuState, emu_power, emu_read, emu_tick};

@@ -1,9 +1,8 @@
 //! Proofs that are checked, by runs over shelves and sinks in memory. The formulas and the answers
 //! are worked by hand.
-use crate::run::run;
 use crate::status::Status;
-use crate::words::Words;
-use knox_edge::{MemShelf, MemSink};
+use crate::trial::{Ran, held, run_line};
+use knox_edge::MemShelf;
 use std::alloc::{AllocError, Global};
 use std::test::Fail;
 
@@ -30,38 +29,11 @@ const NO_PIGEONS: &[u8] = b"\
 14 0 11 8 3 13 6 0\n\
 ";
 
-/// How a run ended, and what it wrote.
-#[derive(Drop)]
-struct Ran {
-    status: Status,
-    out: Vec<u8>,
-    err: Vec<u8>,
-}
-
 /// Checks a proof of a formula.
 fn check(alloc: Global, formula: &[u8], proof: &[u8]) -> Result<Ran, AllocError> {
-    let mut held = Vec::new(alloc);
-    held.push((
-        Vec::from_slice(alloc, b"f")?,
-        Vec::from_slice(alloc, formula)?,
-    ))?;
-    held.push((
-        Vec::from_slice(alloc, b"p")?,
-        Vec::from_slice(alloc, proof)?,
-    ))?;
-    let mut items = Vec::new(alloc);
-    for word in [b"check".as_slice(), b"f".as_slice(), b"p".as_slice()] {
-        items.push(Vec::from_slice(alloc, word)?)?;
-    }
-    let mut shelf = MemShelf::new(alloc, held, Vec::new(alloc));
-    let mut out = MemSink::new(alloc, Vec::new(alloc), 0);
-    let mut err = MemSink::new(alloc, Vec::new(alloc), 0);
-    let status = run(alloc, &Words { items }, &mut shelf, &mut out, &mut err);
-    Ok(Ran {
-        status,
-        out: Vec::from_slice(alloc, out.written())?,
-        err: Vec::from_slice(alloc, err.written())?,
-    })
+    let named = [(b"f".as_slice(), formula), (b"p".as_slice(), proof)];
+    let shelf = MemShelf::new(alloc, held(alloc, &named)?, Vec::new(alloc));
+    run_line(alloc, "check f p", shelf, Vec::new(alloc), Vec::new(alloc))
 }
 
 /// Whether a run wrote this to `out`, and nothing to `err`.

@@ -1,7 +1,8 @@
 //! Texts that are one edit away from those of the PIN store: some are in no form that is built, each
 //! for one reason, and others say the same in an unusual spelling.
+use crate::devices::{SMALL, Texts};
 use crate::status::Status;
-use crate::verdict_tests::{SMALL, Texts, verify};
+use crate::trial::verify;
 use knox_sexpr::SexprFault;
 use knox_text::Place;
 use std::alloc::{AllocError, Global};

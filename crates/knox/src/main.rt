@@ -8,6 +8,8 @@ mod checking;
 mod command;
 mod delivery;
 #[cfg(test)]
+mod devices;
+#[cfg(test)]
 mod form_tests;
 mod judging;
 mod outcome;
@@ -21,6 +23,8 @@ mod status;
 mod store_tests;
 #[cfg(test)]
 mod tests;
+#[cfg(test)]
+mod trial;
 #[cfg(test)]
 mod verdict_tests;
 mod words;

@@ -1,8 +1,8 @@
 //! Runs of the PIN store's segments by the program, each beside the end that the definitions give: the same rows are computed in `pin_store`.
 ghost use Rattle.std.specs.Prelude.{◌<◌};
 
+use crate::devices::SMALL;
 use crate::form_tests::{LAST, edited};
-use crate::verdict_tests::SMALL;
 use emu_machine::Device;
 use knox_text::Place;
 use knox_verify::device_of;

@@ -1,6 +1,6 @@
 //! The PIN store by the evaluators of its parts, which are proved to be their definitions: values
 //! worked by hand. Its cells are the secret and ok, its inputs are the command and the data.
-use crate::verdict_tests::{CIRCUIT, DRIVER, EMULATOR, SPEC};
+use crate::devices::{CIRCUIT, DRIVER, EMULATOR, SPEC};
 use emu_machine::{Device, EmuState, emu_power, emu_read, emu_tick};
 use knox_circuit::{Inputs, Noise, State};
 use knox_lang::{SpecState, initial, op};

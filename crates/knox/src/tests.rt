@@ -1,56 +1,24 @@
 //! Runs over shelves and sinks in memory.
-use crate::run::run;
 use crate::status::Status;
-use crate::words::Words;
-use knox_edge::{MemShelf, MemSink};
+use crate::trial::{held, run_line};
+use knox_edge::MemShelf;
 use std::alloc::{AllocError, Global};
 use std::test::Fail;
 
 const USAGE: &str =
     "usage: knox verify C S D E H [budget N] [paths N] | replay C S D E T | prove F [budget N] | sat F [budget N] | check F P | selftest N\n";
 
-/// How a run ended, and what it wrote.
-#[derive(Drop)]
-struct Ran {
-    status: Status,
-    out: Vec<u8>,
-    err: Vec<u8>,
-}
-
-/// The words of a line, which single spaces part.
-fn words_of(alloc: Global, line: &str) -> Result<Words, AllocError> {
-    let mut items = Vec::new(alloc);
-    for word in line.split(' ') {
-        items.push(Vec::from_slice(alloc, word.as_bytes())?)?;
-    }
-    Ok(Words { items })
-}
-
 /// A shelf of texts with the names c, s, d, e and h.
 fn five_texts(alloc: Global, fail: Vec<u64>) -> Result<MemShelf, AllocError> {
-    let mut held = Vec::new(alloc);
-    for name in [b"c", b"s", b"d", b"e", b"h"] {
-        held.push((Vec::from_slice(alloc, name)?, Vec::new(alloc)))?;
-    }
-    Ok(MemShelf::new(alloc, held, fail))
-}
-
-/// Runs a line over a shelf, with an `err` that fails at these puts.
-fn run_line(
-    alloc: Global,
-    line: &str,
-    mut shelf: MemShelf,
-    err: Vec<u64>,
-) -> Result<Ran, AllocError> {
-    let words = words_of(alloc, line)?;
-    let mut out = MemSink::new(alloc, Vec::new(alloc), 0);
-    let mut err = MemSink::new(alloc, err, 3);
-    let status = run(alloc, &words, &mut shelf, &mut out, &mut err);
-    Ok(Ran {
-        status,
-        out: Vec::from_slice(alloc, out.written())?,
-        err: Vec::from_slice(alloc, err.written())?,
-    })
+    let none = b"".as_slice();
+    let named = [
+        (b"c".as_slice(), none),
+        (b"s".as_slice(), none),
+        (b"d".as_slice(), none),
+        (b"e".as_slice(), none),
+        (b"h".as_slice(), none),
+    ];
+    Ok(MemShelf::new(alloc, held(alloc, &named)?, fail))
 }
 
 #[test]
@@ -71,7 +39,7 @@ fn words_that_are_no_command(rt: HostRuntime) -> Result<(), Fail> {
     ];
     for line in lines {
         let shelf = five_texts(alloc, Vec::new(alloc))?;
-        let ran = run_line(alloc, line, shelf, Vec::new(alloc))?;
+        let ran = run_line(alloc, line, shelf, Vec::new(alloc), Vec::new(alloc))?;
         assert_eq!(rt; ran.status, Status::Usage, "{line}");
         assert!(rt; ran.err.as_slice() == USAGE.as_bytes(), "{line}");
         assert!(rt; ran.out.is_empty(), "{line}");
@@ -90,7 +58,7 @@ fn commands_that_are_not_built(rt: HostRuntime) -> Result<(), Fail> {
     ];
     for line in lines {
         let shelf = MemShelf::new(alloc, Vec::new(alloc), Vec::new(alloc));
-        let ran = run_line(alloc, line, shelf, Vec::new(alloc))?;
+        let ran = run_line(alloc, line, shelf, Vec::new(alloc), Vec::new(alloc))?;
         assert_eq!(rt; ran.status, Status::NotYet, "{line}");
         assert!(rt; ran.err.as_slice() == b"not yet\n".as_slice(), "{line}");
     }
@@ -102,7 +70,7 @@ fn a_third_read_that_fails(rt: HostRuntime) -> Result<(), Fail> {
     let alloc = rt.alloc();
     let shelf = five_texts(alloc, vec![in alloc; 3]?)?;
     let line = "verify c s d e h budget 4294967296 paths 065536";
-    let ran = run_line(alloc, line, shelf, Vec::new(alloc))?;
+    let ran = run_line(alloc, line, shelf, Vec::new(alloc), Vec::new(alloc))?;
     assert_eq!(rt; ran.status, Status::ReadFault);
     assert!(rt; ran.err.as_slice() == b"cannot read d\n".as_slice());
     assert!(rt; ran.out.is_empty());
@@ -127,7 +95,13 @@ fn a_text_of_one_byte_too_many(rt: HostRuntime) -> Result<(), Fail> {
     held.push((Vec::from_slice(alloc, b"c")?, Vec::new(alloc)))?;
     held.push((Vec::from_slice(alloc, b"s")?, long_text(alloc)?))?;
     let shelf = MemShelf::new(alloc, held, Vec::new(alloc));
-    let ran = run_line(alloc, "verify c s d e h paths 1", shelf, Vec::new(alloc))?;
+    let ran = run_line(
+        alloc,
+        "verify c s d e h paths 1",
+        shelf,
+        Vec::new(alloc),
+        Vec::new(alloc),
+    )?;
     assert_eq!(rt; ran.status, Status::Text);
     assert!(rt; ran.err.as_slice() == b"text S TooLong\n".as_slice());
     Ok(())
@@ -137,7 +111,13 @@ fn a_text_of_one_byte_too_many(rt: HostRuntime) -> Result<(), Fail> {
 fn an_err_that_fails(rt: HostRuntime) -> Result<(), Fail> {
     let alloc = rt.alloc();
     let shelf = five_texts(alloc, Vec::new(alloc))?;
-    let ran = run_line(alloc, "verify c", shelf, vec![in alloc; 1]?)?;
+    let ran = run_line(
+        alloc,
+        "verify c",
+        shelf,
+        Vec::new(alloc),
+        vec![in alloc; 1]?,
+    )?;
     assert_eq!(rt; ran.status, Status::WriteFault);
     assert!(rt; ran.err.as_slice() == b"usa".as_slice());
     Ok(())

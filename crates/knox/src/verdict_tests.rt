@@ -1,349 +1,89 @@
 //! Verdicts on small devices, and texts that are outside the form.
-//! The device stores a secret of 4 bits. A command 1 sets it, a command 2 asks whether the data is
-//! the secret, and the answer is shown one tick later.
-use crate::run::run;
+use crate::devices::{
+    LEAKING, SMALL, TORN, TORN_EMULATOR, TORN_HINTS, TORN_SPEC, TWO_OUTPUTS, TWO_STATES, Texts,
+    WEAK_HINTS, WIDE_CIRCUIT, WIDE_EMULATOR, WIDE_SPEC,
+};
 use crate::status::Status;
-use crate::words::Words;
-use knox_edge::{MemShelf, MemSink};
-use std::alloc::{AllocError, Global};
+use crate::trial::verify;
 use std::test::Fail;
 
-/// The PIN store.
-pub(crate) const CIRCUIT: &[u8] = b"\
-1 sort bitvec 1\n\
-2 sort bitvec 2\n\
-3 sort bitvec 4\n\
-4 zero 1\n\
-5 zero 3\n\
-6 constd 2 1\n\
-7 constd 2 2\n\
-8 input 2 cmd\n\
-9 input 3 data\n\
-10 state 3 secret\n\
-11 init 3 10 5\n\
-12 state 1 ok\n\
-13 init 1 12 4\n\
-14 eq 1 8 6\n\
-15 ite 3 14 9 10\n\
-16 next 3 10 15\n\
-17 eq 1 8 7\n\
-18 eq 1 9 10\n\
-19 and 1 17 18\n\
-20 next 1 12 19\n\
-21 output 12 ok\n\
-";
+/// Texts, how their run ends, and what it writes.
+type Case = (Texts<'static>, Status, &'static [u8]);
 
-/// Its specification.
-pub(crate) const SPEC: &[u8] = b"\
-(spec (field secret 4 0)\n\
- (op set ((v 4)) 1 (assign secret v) (result #b1))\n\
- (op check ((g 4)) 1 (result (eq g secret))))\n\
-";
-
-/// Its driver, for the wires alone.
-pub(crate) const DRIVER: &[u8] = b"(driver (persistent secret))";
-
-/// Its emulator, which asks the specification.
-pub(crate) const EMULATOR: &[u8] = b"\
-(emulator (field ok 1 0)\n\
- (outputs (ok ok))\n\
- (tick (local q 1) (local r 1)\n\
-  (if (eq (in cmd) (bv 2 1)) ((query q set (in data))) ())\n\
-  (if (eq (in cmd) (bv 2 2)) ((query r check (in data))) ())\n\
-  (assign ok r)))\n\
-";
-
-/// Hints that close.
-const HINTS: &[u8] = b"\
-(refine (eq (s secret) (c secret)))\n\
-(wire\n\
- (cut A (and (eq (s secret) (c secret)) (eq (c ok) (e ok))))\n\
- (step 1)\n\
- (subsume A))\n\
-";
-
-/// Hints whose cut doesn't say that circuit and emulator show the same.
-const WEAK_HINTS: &[u8] = b"\
-(refine (eq (s secret) (c secret)))\n\
-(wire\n\
- (cut A (eq (s secret) (c secret)))\n\
- (step 1)\n\
- (subsume A))\n\
-";
-
-/// The circuit shows whether its secret is another than 0, and never `ok`.
-const LEAKING: &[u8] = b"\
-1 sort bitvec 1\n\
-2 sort bitvec 2\n\
-3 sort bitvec 4\n\
-4 zero 1\n\
-5 zero 3\n\
-6 constd 2 1\n\
-7 constd 2 2\n\
-8 input 2 cmd\n\
-9 input 3 data\n\
-10 state 3 secret\n\
-11 init 3 10 5\n\
-12 state 1 ok\n\
-13 init 1 12 4\n\
-14 eq 1 8 6\n\
-15 ite 3 14 9 10\n\
-16 next 3 10 15\n\
-17 eq 1 8 7\n\
-18 eq 1 9 10\n\
-19 and 1 17 18\n\
-20 next 1 12 19\n\
-21 redor 1 10\n\
-22 output 21 ok\n\
-";
-
-/// The PIN store with a secret of 5 bits and commands of 4.
-const WIDE_CIRCUIT: &[u8] = b"\
-1 sort bitvec 1\n\
-2 sort bitvec 4\n\
-3 sort bitvec 5\n\
-4 zero 1\n\
-5 zero 3\n\
-6 constd 2 1\n\
-7 constd 2 2\n\
-8 input 2 cmd\n\
-9 input 3 data\n\
-10 state 3 secret\n\
-11 init 3 10 5\n\
-12 state 1 ok\n\
-13 init 1 12 4\n\
-14 eq 1 8 6\n\
-15 ite 3 14 9 10\n\
-16 next 3 10 15\n\
-17 eq 1 8 7\n\
-18 eq 1 9 10\n\
-19 and 1 17 18\n\
-20 next 1 12 19\n\
-21 output 12 ok\n\
-";
-
-/// Its specification.
-const WIDE_SPEC: &[u8] = b"\
-(spec (field secret 5 0)\n\
- (op set ((v 5)) 1 (assign secret v) (result #b1))\n\
- (op check ((g 5)) 1 (result (eq g secret))))\n\
-";
-
-/// Its emulator.
-const WIDE_EMULATOR: &[u8] = b"\
-(emulator (field ok 1 0)\n\
- (outputs (ok ok))\n\
- (tick (local q 1) (local r 1)\n\
-  (if (eq (in cmd) (bv 4 1)) ((query q set (in data))) ())\n\
-  (if (eq (in cmd) (bv 4 2)) ((query r check (in data))) ())\n\
-  (assign ok r)))\n\
-";
-
-/// Two outputs with one symbol, which names the first.
-const TWO_OUTPUTS: &[u8] = b"\
-1 sort bitvec 1\n\
-2 zero 1\n\
-3 constd 1 1\n\
-4 output 2 o\n\
-5 output 3 o\n\
-";
-
-/// Two states with one symbol, which names the first.
-const TWO_STATES: &[u8] = b"\
-1 sort bitvec 1\n\
-2 zero 1\n\
-3 input 1 d\n\
-4 state 1 m\n\
-5 init 1 4 2\n\
-6 next 1 4 3\n\
-7 state 1 m\n\
-8 init 1 7 2\n\
-9 next 1 7 7\n\
-10 output 4 q\n\
-";
-
-/// A secret of two bits, of which a tick writes the low one at once, and the high one a tick later.
-const TORN: &[u8] = b"\
-1 sort bitvec 1\n\
-2 zero 1\n\
-3 input 1 set\n\
-4 input 1 h\n\
-5 input 1 l\n\
-6 state 1 high\n\
-7 init 1 6 2\n\
-8 state 1 low\n\
-9 init 1 8 2\n\
-10 state 1 pending\n\
-11 init 1 10 2\n\
-12 state 1 next\n\
-13 init 1 12 2\n\
-14 ite 1 10 12 6\n\
-15 next 1 6 14\n\
-16 ite 1 3 5 8\n\
-17 next 1 8 16\n\
-18 next 1 10 3\n\
-19 ite 1 3 4 12\n\
-20 next 1 12 19\n\
-21 output 2 nothing\n\
-";
-
-/// Its specification, which writes both at once.
-const TORN_SPEC: &[u8] = b"\
-(spec (field high 1 0) (field low 1 0)\n\
- (op set ((h 1) (l 1)) 1 (assign high h) (assign low l) (result #b1)))\n\
-";
-
-const TORN_EMULATOR: &[u8] = b"\
-(emulator (tick (local q 1) (if (in set) ((query q set (in h) (in l))) ())))\n\
-";
-
-/// Hints whose cut holds again after each tick, while `refine` is broken by one that sets.
-const TORN_HINTS: &[u8] = b"\
-(refine (and (eq (s high) (c high)) (eq (s low) (c low))))\n\
-(wire\n\
- (cut A (and (eq (s low) (c low))\n\
-  (ite (c pending) (eq (s high) (c next)) (eq (s high) (c high)))))\n\
- (step 1)\n\
- (subsume A))\n\
-";
-
-/// Five texts.
-#[derive(Clone, Copy)]
-pub(crate) struct Texts<'a> {
-    pub(crate) c: &'a [u8],
-    pub(crate) s: &'a [u8],
-    pub(crate) d: &'a [u8],
-    pub(crate) e: &'a [u8],
-    pub(crate) h: &'a [u8],
-}
-
-/// The PIN store and hints that close.
-pub(crate) const SMALL: Texts<'static> = Texts {
-    c: CIRCUIT,
-    s: SPEC,
-    d: DRIVER,
-    e: EMULATOR,
-    h: HINTS,
-};
-
-/// How a run ended, and what it wrote.
-#[derive(Drop)]
-pub(crate) struct Ran {
-    pub(crate) status: Status,
-    pub(crate) out: Vec<u8>,
-    pub(crate) err: Vec<u8>,
-}
-
-fn hold(
-    alloc: Global,
-    held: &mut Vec<(Vec<u8>, Vec<u8>)>,
-    name: &[u8],
-    text: &[u8],
-) -> Result<(), AllocError> {
-    held.push((Vec::from_slice(alloc, name)?, Vec::from_slice(alloc, text)?))?;
-    Ok(())
-}
-
-fn shelf_of(alloc: Global, texts: Texts) -> Result<MemShelf, AllocError> {
-    let mut held = Vec::new(alloc);
-    hold(alloc, &mut held, b"c", texts.c)?;
-    hold(alloc, &mut held, b"s", texts.s)?;
-    hold(alloc, &mut held, b"d", texts.d)?;
-    hold(alloc, &mut held, b"e", texts.e)?;
-    hold(alloc, &mut held, b"h", texts.h)?;
-    Ok(MemShelf::new(alloc, held, Vec::new(alloc)))
-}
-
-/// Verifies five texts, with an `out` that fails at these puts and then keeps 2 bytes.
-pub(crate) fn verify(alloc: Global, texts: Texts, fail: Vec<u64>) -> Result<Ran, AllocError> {
-    let mut items = Vec::new(alloc);
-    for word in "verify c s d e h".split(' ') {
-        items.push(Vec::from_slice(alloc, word.as_bytes())?)?;
-    }
-    let mut shelf = shelf_of(alloc, texts)?;
-    let mut out = MemSink::new(alloc, fail, 2);
-    let mut err = MemSink::new(alloc, Vec::new(alloc), 0);
-    let status = run(alloc, &Words { items }, &mut shelf, &mut out, &mut err);
-    Ok(Ran {
-        status,
-        out: Vec::from_slice(alloc, out.written())?,
-        err: Vec::from_slice(alloc, err.written())?,
-    })
-}
+const CASES: [Case; 7] = [
+    (SMALL, Status::Yes, b"yes\n"),
+    // In ascending order the first choices at which circuit and emulator show different
+    // outputs have all words 0 but the emulator's ok.
+    (
+        Texts {
+            h: WEAK_HINTS,
+            ..SMALL
+        },
+        Status::Undecided,
+        b"undecided 3\nchoices 0 0 0 1 0 0\n",
+    ),
+    // With a secret of 0 the circuit shows 0, also where ok is 1.
+    (
+        Texts {
+            c: LEAKING,
+            ..SMALL
+        },
+        Status::Undecided,
+        b"undecided 3\nchoices 0 0 1 1 0 0\n",
+    ),
+    // 5 bits of the field, 5 and 1 of the cells, 1 of the emulator, 4 and 5 of the inputs.
+    (
+        Texts {
+            c: WIDE_CIRCUIT,
+            s: WIDE_SPEC,
+            e: WIDE_EMULATOR,
+            ..SMALL
+        },
+        Status::TooWide,
+        b"too-wide 2 21\n",
+    ),
+    // The emulator shows 1 and 0, and the circuit 0 and 1.
+    (
+        Texts {
+            c: TWO_OUTPUTS,
+            s: b"(spec)",
+            d: b"(driver)",
+            e: b"(emulator (outputs (o #b1)))",
+            h: b"(refine #b1) (wire (cut A #b1) (step 1) (subsume A))",
+        },
+        Status::Undecided,
+        b"undecided 3\nchoices\n",
+    ),
+    // The first state keeps its word over a power-cycle, and the emulator starts at 0.
+    (
+        Texts {
+            c: TWO_STATES,
+            s: b"(spec)",
+            d: b"(driver (persistent m))",
+            e: b"(emulator (field r 1 0) (outputs (q r)) (tick (assign r (in d))))",
+            h: b"(refine #b1) (wire (cut A (eq (c @4) (e r))) (step 1) (subsume A))",
+        },
+        Status::Undecided,
+        b"undecided 2\nchoices 1\n",
+    ),
+    // A tick that sets another high bit leaves the secret torn, and the next one makes it whole.
+    (
+        Texts {
+            c: TORN,
+            s: TORN_SPEC,
+            d: b"(driver (persistent high low))",
+            e: TORN_EMULATOR,
+            h: TORN_HINTS,
+        },
+        Status::Undecided,
+        b"undecided 3\nchoices 0 0 0 0 0 0 1 1 0\n",
+    ),
+];
 
 #[test]
 fn verdicts_and_their_lines(rt: HostRuntime) -> Result<(), Fail> {
     let alloc = rt.alloc();
-    let cases = [
-        (SMALL, Status::Yes, b"yes\n".as_slice()),
-        // In ascending order the first choices at which circuit and emulator show different
-        // outputs have all words 0 but the emulator's ok.
-        (
-            Texts {
-                h: WEAK_HINTS,
-                ..SMALL
-            },
-            Status::Undecided,
-            b"undecided 3\nchoices 0 0 0 1 0 0\n".as_slice(),
-        ),
-        // With a secret of 0 the circuit shows 0, also where ok is 1.
-        (
-            Texts {
-                c: LEAKING,
-                ..SMALL
-            },
-            Status::Undecided,
-            b"undecided 3\nchoices 0 0 1 1 0 0\n".as_slice(),
-        ),
-        // 5 bits of the field, 5 and 1 of the cells, 1 of the emulator, 4 and 5 of the inputs.
-        (
-            Texts {
-                c: WIDE_CIRCUIT,
-                s: WIDE_SPEC,
-                e: WIDE_EMULATOR,
-                ..SMALL
-            },
-            Status::TooWide,
-            b"too-wide 2 21\n".as_slice(),
-        ),
-        // The emulator shows 1 and 0, and the circuit 0 and 1.
-        (
-            Texts {
-                c: TWO_OUTPUTS,
-                s: b"(spec)",
-                d: b"(driver)",
-                e: b"(emulator (outputs (o #b1)))",
-                h: b"(refine #b1) (wire (cut A #b1) (step 1) (subsume A))",
-            },
-            Status::Undecided,
-            b"undecided 3\nchoices\n".as_slice(),
-        ),
-        // The first state keeps its word over a power-cycle, and the emulator starts at 0.
-        (
-            Texts {
-                c: TWO_STATES,
-                s: b"(spec)",
-                d: b"(driver (persistent m))",
-                e: b"(emulator (field r 1 0) (outputs (q r)) (tick (assign r (in d))))",
-                h: b"(refine #b1) (wire (cut A (eq (c @4) (e r))) (step 1) (subsume A))",
-            },
-            Status::Undecided,
-            b"undecided 2\nchoices 1\n".as_slice(),
-        ),
-        // A tick that sets another high bit leaves the secret torn, and the next one makes it whole.
-        (
-            Texts {
-                c: TORN,
-                s: TORN_SPEC,
-                d: b"(driver (persistent high low))",
-                e: TORN_EMULATOR,
-                h: TORN_HINTS,
-            },
-            Status::Undecided,
-            b"undecided 3\nchoices 0 0 0 0 0 0 1 1 0\n".as_slice(),
-        ),
-    ];
-    for (texts, status, out) in cases {
+    for (texts, status, out) in CASES {
         let ran = verify(alloc, texts, Vec::new(alloc))?;
         assert_eq!(rt; ran.status, status);
         assert!(rt; ran.out.as_slice() == out);

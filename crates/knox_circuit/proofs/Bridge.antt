@@ -12,8 +12,8 @@ use Rattle.knox_circuit.specs.declared.line.Shape.{Shape}
 use Rattle.knox_circuit.specs.declared.line.Shape.TheVariants as shape
 use Rattle.knox_circuit.specs.declared.circuit.Cell.{Cell}
 use Rattle.knox_circuit.specs.Meaning.{Value, given, zero_word, operand, word, level, value_of}
-use Rattle.knox_circuit.specs.States.{first_of, next_of}
-use Rattle.knox_circuit.specs.Circuit.{held_from, held_by, next_words, operand_or_zero}
+use Rattle.knox_circuit.specs.States.{cell_of, first_of, next_of}
+use Rattle.knox_circuit.specs.Circuit.{state_value, held_from, held_by, next_words, operand_or_zero}
 use Rattle.knox_circuit.specs.Form.{is_shape, is_line, IsInForm}
 use Rattle.knox_circuit.specs.Resolved.{Lists, no_place, place_of, arg_of, arg_or_zero, arg_word, node_word, node_of, state_node, nodes_of, word_of_node, at_place, output_args, next_args}
 use Rattle.knox_circuit.proofs.Earlier.{differs}
@@ -55,9 +55,17 @@ pub operand-arg : (at : ℕ → Value) (by : ℕ → Bits) (before : List Line) 
 operand-arg at by before h (pos n) = h n
 operand-arg at by before h (negsuc n) = ap (op1_value Not) (h (n + 1))
 
-held-node : (state inputs : List Bits) (by : ℕ → Bits) (first : Option ℕ) → held_from state first 0 ≡ node_word (record { inputs = inputs; state = state }) by (state_node first)
-held-node state inputs by None = refl
-held-node state inputs by (Some f) = ap (word_at state) (add-zero f)
+first-value : (index : Option ℕ) (words : ℕ → Bits) → state_value index words 0 ≡ words 0
+first-value None words = refl
+first-value (Some i) words = refl
+
+-- the first word of a state by its cell's place
+pub held-node : (cells : List Cell) (state inputs : List Bits) (by : ℕ → Bits) (n : ℕ) → held_by cells state n 0 ≡ node_word (record { inputs = inputs; state = state }) by (state_node (first_of cells n))
+held-node [] state inputs by n = refl
+held-node (c ∷ cs) state inputs by n = by_number (c.number == n) (held-node cs state inputs by n) where
+  by_number : (b : Bool) → held_by cs state n 0 ≡ node_word (record { inputs = inputs; state = state }) by (state_node (first_of cs n)) → held_from state (if b then Some c else cell_of cs n) 0 ≡ node_word (record { inputs = inputs; state = state }) by (state_node (if b then Some c.first else first_of cs n))
+  by_number true e = first-value c.index (λ k. word_at state (c.first + k)) ∙ ap (word_at state) (add-zero c.first)
+  by_number false e = e
 
 both : (o : Bits → Bits → Bits) (a b c d : Bits) → a ≡ b → c ≡ d → o a c ≡ o b d
 both o a b c d e f = cc
@@ -73,7 +81,7 @@ level-node g cells before at by h n (shape.Zero s) f = refl
 level-node g cells before at by h n (shape.One s) f = refl
 level-node g cells before at by h n (shape.Ones s) f = refl
 level-node g cells before at by h n (shape.Input s) f = refl
-level-node g cells before at by h n (shape.State s) f = held-node g.state g.inputs by (first_of cells n)
+level-node g cells before at by h n (shape.State s) f = held-node cells g.state g.inputs by n
 level-node g cells before at by h n (shape.Init s x v) f = refl
 level-node g cells before at by h n (shape.Next s x v) f = refl
 level-node g cells before at by h n (shape.Un o s a) f = ap (op1_value o) (operand-arg at by before h a)

@@ -1,5 +1,5 @@
 -- The word of a state's cell has the state's width.
-use Rattle.std.proofs.Common.{◌≡◌, ℕ, suc, ◌<◌, ◌&&◌, ℤ, List, [], ◌∷◌, ◌++◌, Option, Some, None, Bool, true, IsTrue, is_none, is_some, length, reverse, replicate, refl, sym, ◌∙◌, ap, subst, arith, eq-eqb, add-zero, inl, inr, if◌then◌else◌}
+use Rattle.std.proofs.Common.{◌≡◌, ℕ, suc, ◌<◌, ℤ, List, [], ◌∷◌, ◌++◌, Option, Some, None, Bool, true, IsTrue, is_none, is_some, length, reverse, replicate, refl, sym, ◌∙◌, ap, subst, arith, eq-eqb, inl, inr, if◌then◌else◌}
 use Rattle.std.specs.List.{list_all}
 use Rattle.std.proofs.lemmas.Bool.Decides.{eqb_tells}
 use Rattle.std.proofs.lemmas.List.{append-nil, append_assoc}
@@ -13,17 +13,18 @@ use Rattle.knox_circuit.specs.declared.table.Tables.{Tables}
 use Rattle.knox_circuit.specs.Sorts.{shape_of, sort_width, sort_named, state_sort}
 use Rattle.knox_circuit.specs.Ports.{node_width}
 use Rattle.knox_circuit.specs.Meaning.{given}
-use Rattle.knox_circuit.specs.States.{next_of, init_of, size, words_in, first_of, state_cell, if_some, cell_among, cells_among, state_among, states_among}
-use Rattle.knox_circuit.specs.Circuit.{cells_of, held_from, held_by, values, state_widths, input_widths}
+use Rattle.knox_circuit.specs.States.{next_of, size, words_in, first_of, state_cell, if_some, cell_among, cells_among, state_among, states_among}
+use Rattle.knox_circuit.specs.Circuit.{cells_of, held_by, values, state_widths, input_widths}
 use Rattle.knox_circuit.specs.Form.{is_width, last_number, IsInForm}
-use Rattle.knox_circuit.specs.Resolved.{init_word}
-use Rattle.knox_circuit.specs.Whole.{is_ready, IsTabled}
-use Rattle.knox_circuit.proofs.Bridge.{and-left, and-right, is_none-none}
+use Rattle.knox_circuit.specs.Resolved.{state_node, node_word}
+use Rattle.knox_circuit.specs.Whole.{is_fed, IsTabled}
+use Rattle.knox_circuit.proofs.Bridge.{and-left, and-right, is_none-none, held-node}
 use Rattle.knox_circuit.proofs.Earlier.{differs}
 use Rattle.knox_circuit.proofs.Formed.{form_index}
 use Rattle.knox_circuit.proofs.Evaluated.{flat-words}
 use Rattle.knox_circuit.proofs.Sized.{line-above, line-shape, own-sort, sort-grows, sort-inside}
 use Rattle.knox_circuit.proofs.Fitting.{input-fits, value-fits}
+use Rattle.knox_circuit.proofs.Initial.{fed-parts}
 
 -- the widths of device words, cell after cell
 
@@ -95,19 +96,19 @@ record IsHeld (all past : List Line) (n s : ℕ) : Type 0 where
   first : first_of (cells_among all past) n ≡ Some place
   word : (more : List ℕ) (words : List Bits) → fit (state_widths (cells_among all past) ++ more) words ≡ true → fits (sort_width past s) (word_at words place) ≡ true
 
-own-cell : (all before : List Line) (l : Line) (s first : ℕ) → state_sort l.shape ≡ Some s → list_all (is_ready all) (state_among all before l.number (state_sort l.shape)) ≡ true → cell_among all before l first (state_sort l.shape) ≡ state_cell before l s first ∷ []
+own-cell : (all before : List Line) (l : Line) (s first : ℕ) → state_sort l.shape ≡ Some s → list_all is_fed (state_among all before l.number (state_sort l.shape)) ≡ true → cell_among all before l first (state_sort l.shape) ≡ state_cell before l s first ∷ []
 own-cell all before l s first e h =
-    let ready : list_all (is_ready all) (state_among all before l.number (Some s)) ≡ true = subst (λ (o : Option ℕ). list_all (is_ready all) (state_among all before l.number o) ≡ true) e h in
-    ap (cell_among all before l first) e ∙ by_next (next_of all l.number) (and-left _ _ ready) where
-      by_next : (n : Option ℤ) → is_some (init_word all (is_some n) (init_of all l.number)) ≡ true → if_some n (state_cell before l s first ∷ []) ≡ state_cell before l s first ∷ []
+    let fed : list_all is_fed (state_among all before l.number (Some s)) ≡ true = subst (λ (o : Option ℕ). list_all is_fed (state_among all before l.number o) ≡ true) e h in
+    ap (cell_among all before l first) e ∙ by_next (next_of all l.number) (and-left _ _ fed) where
+      by_next : (n : Option ℤ) → is_some n ≡ true → if_some n (state_cell before l s first ∷ []) ≡ state_cell before l s first ∷ []
       by_next None h = cc
       by_next (Some v) h = refl
 
-held-here : (all before : List Line) (l : Line) (s : ℕ) → IsInForm (l ∷ before) → l.shape ≡ shape.State s → list_all (is_ready all) (state_among all before l.number (state_sort l.shape)) ≡ true → IsHeld all (l ∷ before) l.number s
-held-here all before l s f is ready =
+held-here : (all before : List Line) (l : Line) (s : ℕ) → IsInForm (l ∷ before) → l.shape ≡ shape.State s → list_all is_fed (state_among all before l.number (state_sort l.shape)) ≡ true → IsHeld all (l ∷ before) l.number s
+held-here all before l s f is fed =
     let cs = cells_among all before in
     let c = state_cell before l s (words_in cs) in
-    let made : cells_among all (l ∷ before) ≡ cs ++ c ∷ [] = ap (λ (z : List Cell). cs ++ z) (own-cell all before l s (words_in cs) (ap state_sort is) ready) in
+    let made : cells_among all (l ∷ before) ≡ cs ++ c ∷ [] = ap (λ (z : List Cell). cs ++ z) (own-cell all before l s (words_in cs) (ap state_sort is) fed) in
     let wide : IsTrue (is_width (sort_width before s)) = own-sort before l.shape s (line-shape before l f.0) (ap sort_named is) in
     let up : last_number before < l.number = line-above before l f.0 in
     let flat : state_widths (c ∷ []) ≡ sort_width before s ∷ [] = rw (form_index before s f.1) refl in
@@ -141,16 +142,10 @@ held-grows all before l n s f e old =
           subst (λ (k : ℕ). fits k (word_at words old.place) ≡ true) (sym (sort-grows before l f s wide)) (old.word (state_widths ds ++ more) words split);
     }
 
-pub ready-parts : (all before : List Line) (l : Line) → list_all (is_ready all) (states_among all (l ∷ before)) ≡ true → (list_all (is_ready all) (states_among all before) ≡ true) × (list_all (is_ready all) (state_among all before l.number (state_sort l.shape)) ≡ true)
-ready-parts all before l h =
-    let parts : (list_all (is_ready all) (states_among all before) && list_all (is_ready all) (state_among all before l.number (state_sort l.shape))) ≡ true =
-    sym (list_all-append (is_ready all) (states_among all before) (state_among all before l.number (state_sort l.shape))) ∙ h in
-    (and-left _ _ parts, and-right _ _ parts)
-
-held-at : (all past : List Line) → IsInForm past → list_all (is_ready all) (states_among all past) ≡ true → (n s : ℕ) → shape_of past n ≡ Some (shape.State s) → IsHeld all past n s
+held-at : (all past : List Line) → IsInForm past → list_all is_fed (states_among all past) ≡ true → (n s : ℕ) → shape_of past n ≡ Some (shape.State s) → IsHeld all past n s
 held-at all [] f r n s e = cc
 held-at all (l ∷ before) f r n s e =
-    let parts = ready-parts all before l r in
+    let parts = fed-parts all before l r in
     elim (eqb_tells l.number n) [
       | inl p ↦
           let here : Some l.shape ≡ Some (shape.State s) = sym (ap (λ (b : Bool). if b then Some l.shape else shape_of before n) p.0) ∙ e in
@@ -163,7 +158,8 @@ held-at all (l ∷ before) f r n s e =
 
 held-word : (cells : List Cell) (words : List Bits) (n k w : ℕ) → first_of cells n ≡ Some k → fits w (word_at words k) ≡ true → fits w (held_by cells words n 0) ≡ true
 held-word cells words n k w e h =
-    subst (λ (o : Option ℕ). fits w (held_from words o 0) ≡ true) (sym e) (subst (λ (j : ℕ). fits w (word_at words j) ≡ true) (sym (add-zero k)) h)
+    let is : held_by cells words n 0 ≡ word_at words k = held-node cells words [] (word_at []) n ∙ ap (λ (o : Option ℕ). node_word (record { inputs = []; state = words }) (word_at []) (state_node o)) e in
+    subst (λ (b : Bits). fits w b ≡ true) (sym is) h
 
 held-fits : (lines : List Line) (t : Tables) (state : List Bits) → IsTabled (reverse lines) t → fit (state_widths (cells_of lines)) state ≡ true → (n s : ℕ) → shape_of (reverse lines) n ≡ Some (shape.State s) → fits (sort_width (reverse lines) s) (held_by (cells_of lines) state n 0) ≡ true
 held-fits lines t state h fs n s e =

@@ -59,7 +59,7 @@ own-literal before (shape.One s) w f e = cc
 own-literal before (shape.Ones s) w f e = cc
 own-literal before _ w f e = cc
 
-literal-found : (past : List Line) (n : ℕ) (w : Bits) → literal_of past n ≡ Some w → (sh : Shape) × (shape_of past n ≡ Some sh)
+pub literal-found : (past : List Line) (n : ℕ) (w : Bits) → literal_of past n ≡ Some w → (sh : Shape) × (shape_of past n ≡ Some sh)
 literal-found [] n w e = cc
 literal-found (l ∷ before) n w e = elim (eqb_tells l.number n) [
   | inl p ↦ (l.shape, ap (λ (b : Bool). if b then Some l.shape else shape_of before n) p.0)

@@ -194,7 +194,7 @@ cells-more lines k l cells new f is h e =
       flat = ap (list_all (λ (c : Cell). is_none c.index)) e ∙ (list_all-append (λ (c : Cell). is_none c.index) cells more ∙ rw (h.flat, one.1) refl);
     }
 
-one-more_cell : (all before : List Line) (l : Line) (first : ℕ) (o : Option ℕ) → length (cell_among all before l first o) ≤ 1
+pub one-more_cell : (all before : List Line) (l : Line) (first : ℕ) (o : Option ℕ) → length (cell_among all before l first o) ≤ 1
 one-more_cell all before l first None = omega arith
 one-more_cell all before l first (Some s) = few_cell (next_of all l.number) where
   few_cell : (n : Option ℤ) → length (if_some n (state_cell before l s first ∷ [])) ≤ 1

@@ -8,7 +8,12 @@ pub mod Evaluated
 pub mod Powered
 pub mod Sized
 pub mod Fitting
+pub mod Initial
+pub mod Filling
 pub mod Celled
 pub mod Sound
+pub mod Shown
+pub mod Noisy
+pub mod Renewed
 pub mod Persisting
 pub mod Named

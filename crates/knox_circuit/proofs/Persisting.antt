@@ -1,5 +1,5 @@
 -- Persistent words, over cells of one word each.
-use Rattle.std.proofs.Common.{◌≡◌, ℕ, List, [], ◌∷◌, ◌++◌, Option, None, Bool, true, false, length, take, drop, replicate, reverse, refl, sym, ◌∙◌, ap, subst, arith, if◌then◌else◌}
+use Rattle.std.proofs.Common.{◌≡◌, ◌≤◌, ℕ, List, [], ◌∷◌, ◌++◌, Option, Some, None, Bool, true, false, length, take, drop, replicate, reverse, refl, sym, ◌∙◌, ap, subst, arith, if◌then◌else◌}
 use Rattle.std.proofs.lemmas.Nat.{pow_pos}
 use Rattle.knox_words.specs.Bits.{Bits, word_or}
 use Rattle.knox_words.specs.Lists.{fit, fits}
@@ -8,25 +8,33 @@ use Rattle.knox_circuit.specs.declared.circuit.Cell.{Cell}
 use Rattle.knox_circuit.specs.declared.table.Tables.{Tables}
 use Rattle.knox_circuit.specs.States.{size}
 use Rattle.knox_circuit.specs.Circuit.{cells_of, state_widths}
-use Rattle.knox_circuit.specs.Power.{first_keep, kept_words, state_after_power, persistent_words, persistent_widths, spread_words}
+use Rattle.knox_circuit.specs.Power.{first_keep, states_of, noise_widths, state_after_power, persistent_words, persistent_widths, spread_words}
+use Rattle.knox_circuit.specs.Filled.{known_words, filled, unknown_widths}
 use Rattle.knox_circuit.specs.Whole.{IsTabled}
 use Rattle.knox_circuit.proofs.Bridge.{and-left, and-right}
 use Rattle.knox_circuit.proofs.Powered.{power-are, first-length}
-use Rattle.knox_circuit.proofs.Evaluated.{lines-words}
+use Rattle.knox_circuit.proofs.Evaluated.{lines-words, cells-flat}
+use Rattle.knox_circuit.proofs.Celled.{flat-lengths}
 use Rattle.knox_circuit.proofs.Fitting.{word_or-fits}
-use Rattle.knox_circuit.proofs.Sound.{AllSound, cells-sound, state-count}
+use Rattle.knox_circuit.proofs.Sound.{AllSound, cells-sound}
+use Rattle.knox_circuit.proofs.Noisy.{lines-noise}
+use Rattle.knox_circuit.proofs.Renewed.{state-length}
 
 -- what a power-cycle keeps
 
-same-kept : (past : List Line) (cs : List Cell) (keep : List Bool) (old first : List Bits) → AllSound past cs → length keep ≡ length cs → length old ≡ length cs → length first ≡ length cs → persistent_words cs keep (kept_words keep old first) ≡ persistent_words cs keep old
-same-kept past [] keep old first a k o f = refl
-same-kept past (c ∷ cs) [] old first a k o f = absurd (omega (arith, k))
-same-kept past (c ∷ cs) (x ∷ keep) [] first a k o f = absurd (omega (arith, o))
-same-kept past (c ∷ cs) (x ∷ keep) (b ∷ old) [] a k o f = absurd (omega (arith, f))
-same-kept past (c ∷ cs) (true ∷ keep) (b ∷ old) (w ∷ first) a k o f =
-    rw a.0.flat (ap (λ (z : List Bits). b ∷ z) (same-kept past cs keep old first a.1 (omega (arith, k)) (omega (arith, o)) (omega (arith, f))))
-same-kept past (c ∷ cs) (false ∷ keep) (b ∷ old) (w ∷ first) a k o f =
-    rw a.0.flat (same-kept past cs keep old first a.1 (omega (arith, k)) (omega (arith, o)) (omega (arith, f)))
+same-kept : (past : List Line) (cs : List Cell) (keep : List Bool) (old : List Bits) (fs : List (Option Bits)) (ws : List ℕ) (noise : List Bits) → AllSound past cs → length keep ≡ length cs → length old ≡ length cs → length fs ≡ length cs → length ws ≡ length cs → fit (unknown_widths (known_words keep old fs) ws) noise ≡ true → persistent_words cs keep (filled (known_words keep old fs) noise) ≡ persistent_words cs keep old
+same-kept past [] keep old fs ws noise a k o f w h = refl
+same-kept past (c ∷ cs) [] old fs ws noise a k o f w h = absurd (omega (arith, k))
+same-kept past (c ∷ cs) (x ∷ keep) [] fs ws noise a k o f w h = absurd (omega (arith, o))
+same-kept past (c ∷ cs) (x ∷ keep) (b ∷ old) [] ws noise a k o f w h = absurd (omega (arith, f))
+same-kept past (c ∷ cs) (x ∷ keep) (b ∷ old) (g ∷ fs) [] noise a k o f w h = absurd (omega (arith, w))
+same-kept past (c ∷ cs) (true ∷ keep) (b ∷ old) (g ∷ fs) (v ∷ ws) noise a k o f w h =
+    rw a.0.flat (ap (λ (z : List Bits). b ∷ z) (same-kept past cs keep old fs ws noise a.1 (omega (arith, k)) (omega (arith, o)) (omega (arith, f)) (omega (arith, w)) h))
+same-kept past (c ∷ cs) (false ∷ keep) (b ∷ old) (Some g ∷ fs) (v ∷ ws) noise a k o f w h =
+    rw a.0.flat (same-kept past cs keep old fs ws noise a.1 (omega (arith, k)) (omega (arith, o)) (omega (arith, f)) (omega (arith, w)) h)
+same-kept past (c ∷ cs) (false ∷ keep) (b ∷ old) (None ∷ fs) (v ∷ ws) [] a k o f w h = cc
+same-kept past (c ∷ cs) (false ∷ keep) (b ∷ old) (None ∷ fs) (v ∷ ws) (n ∷ noise) a k o f w h =
+    rw a.0.flat (same-kept past cs keep old fs ws noise a.1 (omega (arith, k)) (omega (arith, o)) (omega (arith, f)) (omega (arith, w)) (and-right (fits v n) _ h))
 
 -- persistent words fit
 
@@ -60,29 +68,36 @@ spread-back past (c ∷ cs) keep words a h = rw a.0.flat (by_words words (first_
   by_words (w ∷ words) true h rest = ap (λ (z : List Bits). w ∷ z) (rest words (and-right (fits c.width w) _ h))
   by_words words false h rest = rest words h
 
-same-alone : (past : List Line) (cs : List Cell) (keep : List Bool) (old first : List Bits) → AllSound past cs → length keep ≡ length cs → length old ≡ length cs → length first ≡ length cs → kept_words keep (spread_words cs keep (persistent_words cs keep old)) first ≡ kept_words keep old first
+same-alone : (past : List Line) (cs : List Cell) (keep : List Bool) (old : List Bits) (fs : List (Option Bits)) → AllSound past cs → length keep ≡ length cs → length old ≡ length cs → length fs ≡ length cs → known_words keep (spread_words cs keep (persistent_words cs keep old)) fs ≡ known_words keep old fs
 same-alone past [] keep old [] a k o f = refl
-same-alone past [] keep old (w ∷ first) a k o f = absurd (omega (arith, f))
-same-alone past (c ∷ cs) [] old first a k o f = absurd (omega (arith, k))
-same-alone past (c ∷ cs) (x ∷ keep) [] first a k o f = absurd (omega (arith, o))
+same-alone past [] keep old (w ∷ fs) a k o f = absurd (omega (arith, f))
+same-alone past (c ∷ cs) [] old fs a k o f = absurd (omega (arith, k))
+same-alone past (c ∷ cs) (x ∷ keep) [] fs a k o f = absurd (omega (arith, o))
 same-alone past (c ∷ cs) (x ∷ keep) (b ∷ old) [] a k o f = absurd (omega (arith, f))
-same-alone past (c ∷ cs) (true ∷ keep) (b ∷ old) (w ∷ first) a k o f =
-    rw a.0.flat (ap (λ (z : List Bits). b ∷ z) (same-alone past cs keep old first a.1 (omega (arith, k)) (omega (arith, o)) (omega (arith, f))))
-same-alone past (c ∷ cs) (false ∷ keep) (b ∷ old) (w ∷ first) a k o f =
-    rw a.0.flat (ap (λ (z : List Bits). w ∷ z) (same-alone past cs keep old first a.1 (omega (arith, k)) (omega (arith, o)) (omega (arith, f))))
+same-alone past (c ∷ cs) (true ∷ keep) (b ∷ old) (w ∷ fs) a k o f =
+    rw a.0.flat (ap (λ (z : List (Option Bits)). Some b ∷ z) (same-alone past cs keep old fs a.1 (omega (arith, k)) (omega (arith, o)) (omega (arith, f))))
+same-alone past (c ∷ cs) (false ∷ keep) (b ∷ old) (w ∷ fs) a k o f =
+    rw a.0.flat (ap (λ (z : List (Option Bits)). w ∷ z) (same-alone past cs keep old fs a.1 (omega (arith, k)) (omega (arith, o)) (omega (arith, f))))
 
 -- power-cycles of a circuit
 
-state-length : (lines : List Line) (t : Tables) → IsTabled (reverse lines) t → (state : List Bits) → fit (state_widths (cells_of lines)) state ≡ true → length state ≡ length (cells_of lines)
-state-length lines t h state fs = state-count lines t h state fs ∙ lines-words lines t h
-
-pub power-kept : (lines : List Line) (t : Tables) → IsTabled (reverse lines) t → (keep : List Bool) (state noise : List Bits) → length keep ≡ length (cells_of lines) → fit (state_widths (cells_of lines)) state ≡ true → persistent_words (cells_of lines) keep (state_after_power lines keep state noise) ≡ persistent_words (cells_of lines) keep state
-power-kept lines t h keep state noise count fs =
-    subst (λ (ws : List Bits). persistent_words (cells_of lines) keep ws ≡ persistent_words (cells_of lines) keep state) (power-are lines t keep state noise h)
-    (same-kept (reverse lines) (cells_of lines) keep state t.first_words (cells-sound (reverse lines) (reverse lines) h.form) count (state-length lines t h state fs) (first-length lines t h))
+pub power-kept : (lines : List Line) (t : Tables) → IsTabled (reverse lines) t → (keep : List Bool) (state noise : List Bits) → length keep ≡ length (cells_of lines) → fit (state_widths (cells_of lines)) state ≡ true → fit (noise_widths (states_of lines) keep) noise ≡ true → persistent_words (cells_of lines) keep (state_after_power lines keep state noise) ≡ persistent_words (cells_of lines) keep state
+power-kept lines t h keep state noise count fs fn =
+    let states : length state ≡ length (cells_of lines) = state-length lines t h state fs in
+    let enough : length keep ≤ length state = omega (arith, count, states) in
+    subst (λ (ws : List Bits). persistent_words (cells_of lines) keep ws ≡ persistent_words (cells_of lines) keep state) (power-are lines t keep state noise h enough)
+    (same-kept (reverse lines) (cells_of lines) keep state t.first_words (state_widths (cells_of lines)) noise (cells-sound (reverse lines) (reverse lines) h.form) count states (first-length lines t h)
+    (flat-lengths (cells_of lines) (cells-flat lines t h) ∙ lines-words lines t h)
+    (ap (λ (ws : List ℕ). fit ws noise) (sym (lines-noise lines t keep state h)) ∙ fn))
 
 pub power-alone : (lines : List Line) (t : Tables) → IsTabled (reverse lines) t → (keep : List Bool) (state noise : List Bits) → length keep ≡ length (cells_of lines) → fit (state_widths (cells_of lines)) state ≡ true → state_after_power lines keep (spread_words (cells_of lines) keep (persistent_words (cells_of lines) keep state)) noise ≡ state_after_power lines keep state noise
 power-alone lines t h keep state noise count fs =
-    sym (power-are lines t keep (spread_words (cells_of lines) keep (persistent_words (cells_of lines) keep state)) noise h)
-    ∙ (same-alone (reverse lines) (cells_of lines) keep state t.first_words (cells-sound (reverse lines) (reverse lines) h.form) count (state-length lines t h state fs) (first-length lines t h)
-    ∙ power-are lines t keep state noise h)
+    let all = reverse lines in
+    let sound = cells-sound all all h.form in
+    let states : length state ≡ length (cells_of lines) = state-length lines t h state fs in
+    let spread = spread_words (cells_of lines) keep (persistent_words (cells_of lines) keep state) in
+    let spread-count : length spread ≡ length (cells_of lines) =
+    state-length lines t h spread (spread-fit all (cells_of lines) keep (persistent_words (cells_of lines) keep state) sound (persistent-fit all (cells_of lines) keep state sound fs)) in
+    sym (power-are lines t keep spread noise h (omega (arith, count, spread-count)))
+    ∙ (ap (λ (ks : List (Option Bits)). filled ks noise) (same-alone all (cells_of lines) keep state t.first_words sound count states (first-length lines t h))
+    ∙ power-are lines t keep state noise h (omega (arith, count, states)))

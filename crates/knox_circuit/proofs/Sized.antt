@@ -19,7 +19,7 @@ line-above before l h = ltb-true _ _ (and-right _ _ (and-left _ _ h))
 pub line-shape : (before : List Line) (l : Line) → IsTrue (is_line before l) → IsTrue (is_shape before l.shape)
 line-shape before l h = and-right _ _ h
 
-found-below : (past : List Line) → IsInForm past → (n : ℕ) (sh : Shape) → shape_of past n ≡ Some sh → n ≤ last_number past
+pub found-below : (past : List Line) → IsInForm past → (n : ℕ) (sh : Shape) → shape_of past n ≡ Some sh → n ≤ last_number past
 found-below [] f n sh e = cc
 found-below (l ∷ before) f n sh e = elim (eqb_tells l.number n) [
   | inl p ↦ let is : l.number ≡ n = p.1 in omega (arith, is)

@@ -1,10 +1,10 @@
--- Cells and states have the widths of their nodes, and device words keep their widths.
+-- Cells and states have the widths of their nodes, and device words keep their widths at a tick.
 use Rattle.std.proofs.Common.{◌≡◌, ℕ, ◌&&◌, nat_le, ℤ, List, [], ◌∷◌, ◌++◌, Option, Some, None, Bool, true, false, IsTrue, is_none, is_some, length, map, reverse, drop, refl, sym, ◌∙◌, ap, subst, eq-eqb, if◌then◌else◌}
 use Rattle.std.specs.List.{list_all}
 use Rattle.std.proofs.lemmas.Bool.{le-leb}
 use Rattle.std.proofs.lemmas.List.{map-append}
 use Rattle.std.proofs.lemmas.List.Folds.{list_all-append}
-use Rattle.knox_words.specs.Bits.{Bits}
+use Rattle.knox_words.specs.Bits.{Bits, word_at}
 use Rattle.knox_words.specs.Lists.{fit, fits, are_widths}
 use Rattle.knox_words.proofs.Lists.{length-fit}
 use Rattle.knox_circuit.specs.declared.line.Line.{Line}
@@ -18,16 +18,18 @@ use Rattle.knox_circuit.specs.Ports.{shape_width, node_width, width_named, input
 use Rattle.knox_circuit.specs.Meaning.{Value, given, operand}
 use Rattle.knox_circuit.specs.States.{StateLine, next_of, init_of, words_in, state_cell, if_some, cell_among, cells_among, state_among, states_among}
 use Rattle.knox_circuit.specs.Circuit.{cells_of, values, operand_or_zero, next_words, state_after_tick, state_widths, input_widths}
-use Rattle.knox_circuit.specs.Power.{first_keep, kept_words, states_of, state_after_power, factory_state}
+use Rattle.knox_circuit.specs.Power.{first_keep}
+use Rattle.knox_circuit.specs.Filled.{known_words}
 use Rattle.knox_circuit.specs.Form.{is_width, IsInForm}
-use Rattle.knox_circuit.specs.Resolved.{literal_of, literal_operand, init_word, first_word}
-use Rattle.knox_circuit.specs.Whole.{is_ready, IsTabled}
-use Rattle.knox_circuit.proofs.Bridge.{and-left, and-right}
+use Rattle.knox_circuit.specs.Resolved.{literal_of, literal_operand, first_word}
+use Rattle.knox_circuit.specs.Whole.{is_fed, IsTabled}
+use Rattle.knox_circuit.proofs.Bridge.{and-left}
 use Rattle.knox_circuit.proofs.Formed.{form_index}
-use Rattle.knox_circuit.proofs.Powered.{ready-cell, power-are, factory-are}
+use Rattle.knox_circuit.proofs.Initial.{fed-parts}
+use Rattle.knox_circuit.proofs.Filling.{KnownFits, OldFits, AllKnown}
 use Rattle.knox_circuit.proofs.Evaluated.{cells-flat}
 use Rattle.knox_circuit.proofs.Sized.{line-shape, own-sort, own-node, node-grows, next-pair, init-pair}
-use Rattle.knox_circuit.proofs.Celled.{widths-append, flat-lengths, ready-parts, values-fit}
+use Rattle.knox_circuit.proofs.Celled.{widths-append, flat-lengths, values-fit}
 use Rattle.knox_circuit.proofs.Fitting.{width-wide, width-narrow, port_widths, literal-fits}
 
 -- a cell has its node's width, and one word
@@ -150,81 +152,56 @@ one-given : (all before : List Line) (l : Line) → IsInForm (l ∷ before) → 
 one-given all before l f None e = tt
 one-given all before l f (Some s) e = let own = own-width before l s f e in ((own.0, (own.1, refl)), tt)
 
-states-given : (all past : List Line) → IsInForm past → AllGiven all past (states_among all past)
+pub states-given : (all past : List Line) → IsInForm past → AllGiven all past (states_among all past)
 states-given all [] f = tt
 states-given all (l ∷ before) f =
     given-append all (l ∷ before) (states_among all before) (state_among all before l.number (state_sort l.shape))
     (given-grows all before l f (states_among all before) (states-given all before f.1))
     (one-given all before l f (state_sort l.shape) refl)
 
-init-fits : (all : List Line) → IsInForm all → (s : StateLine) → IsGiven all all s → (o : Option ℤ) → init_of all s.number ≡ o → (w : Bits) → literal_operand all o ≡ Some w → fits s.width w ≡ true
-init-fits all f s a None e w q = cc
-init-fits all f s a (Some v) e w q =
-    let p = init-pair all f s.number v e in
-    let literal : literal_of all p.node ≡ Some w = sym (ap (λ (z : ℤ). literal_operand all (Some z)) p.is) ∙ q in
-    subst (λ (k : ℕ). fits k w ≡ true) (p.same ∙ a.0) (literal-fits all f p.node w literal)
-
-first-fits : (all : List Line) → IsInForm all → (s : StateLine) → IsGiven all all s → (w : Bits) → first_word all s ≡ Some w → fits s.width w ≡ true
-first-fits all f s a w e =
-    let both = ready-cell all s.is_cell s.init w e in
-    init-fits all f s a (init_of all s.number) refl w (sym (ap (literal_operand all) a.1.1) ∙ both.1)
-
 abbrev pub line_widths : List StateLine → List ℕ
 line_widths ss = map (λ (s : StateLine). s.width) ss
 
-firsts-fit : (all : List Line) → IsInForm all → (ss : List StateLine) → AllGiven all all ss → (words : List Bits) → map (first_word all) ss ≡ map Some words → fit (line_widths ss) words ≡ true
-firsts-fit all f [] a [] e = refl
-firsts-fit all f [] a (w ∷ words) e = cc
-firsts-fit all f (s ∷ ss) a [] e = cc
-firsts-fit all f (s ∷ ss) a (w ∷ words) e =
-    let first : first_word all s ≡ Some w = cc in
-    let others : map (first_word all) ss ≡ map Some words = cc in
-    rw (first-fits all f s a.0 w first) (firsts-fit all f ss a.1 words others)
+init-fits : (all : List Line) → IsInForm all → (n width : ℕ) → node_width all n ≡ width → (o : Option ℤ) → init_of all n ≡ o → (w : Bits) → literal_operand all o ≡ Some w → fits width w ≡ true
+init-fits all f n width a None e w q = cc
+init-fits all f n width a (Some v) e w q =
+    let p = init-pair all f n v e in
+    let literal : literal_of all p.node ≡ Some w = sym (ap (λ (z : ℤ). literal_operand all (Some z)) p.is) ∙ q in
+    subst (λ (k : ℕ). fits k w ≡ true) (p.same ∙ a) (literal-fits all f p.node w literal)
+
+first-fits : (all : List Line) → IsInForm all → (s : StateLine) → IsGiven all all s → KnownFits s.width (first_word all s)
+first-fits all f s a = by_word (first_word all s) refl where
+  by_word : (o : Option Bits) → first_word all s ≡ o → KnownFits s.width o
+  by_word None e = tt
+  by_word (Some w) e = init-fits all f s.number s.width a.0 (init_of all s.number) refl w (sym (ap (literal_operand all) a.1.1) ∙ e)
+
+pub known-fit : (all : List Line) → IsInForm all → (ss : List StateLine) → AllGiven all all ss → (keep : List Bool) (old : List Bits) → OldFits keep (line_widths ss) old → AllKnown (known_words keep old (map (first_word all) ss)) (line_widths ss)
+known-fit all f [] a keep old h = tt
+known-fit all f (s ∷ ss) a keep old h =
+    (by_keep (first_keep keep) refl, known-fit all f ss a.1 (drop 1 keep) (drop 1 old) h.1) where
+      by_keep : (k : Bool) → first_keep keep ≡ k → KnownFits s.width (if k then Some (word_at old 0) else first_word all s)
+      by_keep true e = h.0 e
+      by_keep false e = first-fits all f s a.0
 
 -- every state is a cell
 
-one-width : (all before : List Line) (l : Line) (first : ℕ) (o : Option ℕ) → IsInForm before → list_all (is_ready all) (state_among all before l.number o) ≡ true → line_widths (state_among all before l.number o) ≡ state_widths (cell_among all before l first o)
+one-width : (all before : List Line) (l : Line) (first : ℕ) (o : Option ℕ) → IsInForm before → list_all is_fed (state_among all before l.number o) ≡ true → line_widths (state_among all before l.number o) ≡ state_widths (cell_among all before l first o)
 one-width all before l first None f h = refl
 one-width all before l first (Some s) f h = by_next (next_of all l.number) (and-left _ _ h) where
-  by_next : (n : Option ℤ) → is_some (init_word all (is_some n) (init_of all l.number)) ≡ true → sort_width before s ∷ [] ≡ state_widths (if_some n (state_cell before l s first ∷ []))
+  by_next : (n : Option ℤ) → is_some n ≡ true → sort_width before s ∷ [] ≡ state_widths (if_some n (state_cell before l s first ∷ []))
   by_next None h = cc
   by_next (Some v) h = rw (form_index before s f) refl
 
-states-cells : (all past : List Line) → IsInForm past → list_all (is_ready all) (states_among all past) ≡ true → line_widths (states_among all past) ≡ state_widths (cells_among all past)
+pub states-cells : (all past : List Line) → IsInForm past → list_all is_fed (states_among all past) ≡ true → line_widths (states_among all past) ≡ state_widths (cells_among all past)
 states-cells all [] f h = refl
 states-cells all (l ∷ before) f h =
     let cs = cells_among all before in
     let new = state_among all before l.number (state_sort l.shape) in
-    let parts = ready-parts all before l h in
+    let parts = fed-parts all before l h in
     map-append (λ (s : StateLine). s.width) (states_among all before) new
     ∙ (ap (λ (z : List ℕ). z ++ line_widths new) (states-cells all before f.1 parts.0)
     ∙ (ap (λ (z : List ℕ). state_widths cs ++ z) (one-width all before l (words_in cs) (state_sort l.shape) f.1 parts.1)
     ∙ sym (widths-append cs (cell_among all before l (words_in cs) (state_sort l.shape)))))
-
-pub first-words-fit : (lines : List Line) (t : Tables) → IsTabled (reverse lines) t → fit (state_widths (cells_of lines)) t.first_words ≡ true
-first-words-fit lines t h =
-    let all = reverse lines in
-    subst (λ (ws : List ℕ). fit ws t.first_words ≡ true) (states-cells all all h.form h.complete)
-    (firsts-fit all h.form (states_of lines) (states-given all all h.form) t.first_words h.first_words)
-
-pub factory-fits : (lines : List Line) (t : Tables) → IsTabled (reverse lines) t → (noise : List Bits) → fit (state_widths (cells_of lines)) (factory_state lines noise) ≡ true
-factory-fits lines t h noise = subst (λ (ws : List Bits). fit (state_widths (cells_of lines)) ws ≡ true) (factory-are lines t noise h) (first-words-fit lines t h)
-
-kept-fit : (widths : List ℕ) (keep : List Bool) (old first : List Bits) → fit widths old ≡ true → fit widths first ≡ true → fit widths (kept_words keep old first) ≡ true
-kept-fit [] keep old [] a b = refl
-kept-fit [] keep old (w ∷ first) a b = cc
-kept-fit (v ∷ vs) keep old [] a b = cc
-kept-fit (v ∷ vs) keep [] (w ∷ first) a b = cc
-kept-fit (v ∷ vs) keep (o ∷ old) (w ∷ first) a b =
-    by_keep (first_keep keep) (kept-fit vs (drop 1 keep) old first (and-right (fits v o) _ a) (and-right (fits v w) _ b)) where
-      by_keep : (k : Bool) → fit vs (kept_words (drop 1 keep) old first) ≡ true → fit (v ∷ vs) ((if k then o ∷ [] else w ∷ []) ++ kept_words (drop 1 keep) old first) ≡ true
-      by_keep true rest = rw (and-left (fits v o) _ a) rest
-      by_keep false rest = rw (and-left (fits v w) _ b) rest
-
-pub power-fits : (lines : List Line) (t : Tables) → IsTabled (reverse lines) t → (keep : List Bool) (state noise : List Bits) → fit (state_widths (cells_of lines)) state ≡ true → fit (state_widths (cells_of lines)) (state_after_power lines keep state noise) ≡ true
-power-fits lines t h keep state noise fs =
-    subst (λ (ws : List Bits). fit (state_widths (cells_of lines)) ws ≡ true) (power-are lines t keep state noise h)
-    (kept-fit (state_widths (cells_of lines)) keep state t.first_words fs (first-words-fit lines t h))
 
 -- the widths of inputs
 

@@ -4,8 +4,8 @@ use Rattle.knox_words.specs.Bits.{Bits, word_at}
 use Rattle.knox_circuit.specs.declared.line.Line.{Line}
 use Rattle.knox_circuit.specs.declared.circuit.Cell.{Cell}
 use Rattle.knox_circuit.specs.Meaning.{Value, given, zero_word, constant, operand, word, value_of}
-use Rattle.knox_circuit.specs.States.{next_of, cells_among, first_of, size, words_in}
-use Rattle.knox_circuit.specs.Ports.{output_operands, inputs_of}
+use Rattle.knox_circuit.specs.States.{next_of, cells_among, cell_of, size, words_in}
+use Rattle.knox_circuit.specs.Ports.{output_operands, inputs_of, outputs_of}
 use Rattle.knox_circuit.specs.declared.circuit.Port.{Port}
 
 -- a circuit is its lines, in the order of the text
@@ -16,14 +16,19 @@ pub record Circuit : Type 0 where
 abbrev pub cells_of : List Line → List Cell
 cells_of lines = cells_among (reverse lines) (reverse lines)
 
--- the value of the state whose words begin at a place
-abbrev pub held_from : List Bits → Option ℕ → Value
+-- the value of a state with these words: its one word at each index where it is no array
+abbrev pub state_value : Option ℕ → (ℕ → Bits) → Value
+state_value None words = constant (words 0)
+state_value (Some i) words = words
+
+-- the value of a cell, whose words begin at its place among the device words
+abbrev pub held_from : List Bits → Option Cell → Value
 held_from words None = constant zero_word
-held_from words (Some first) = λ k. word_at words (first + k)
+held_from words (Some c) = state_value c.index (λ k. word_at words (c.first + k))
 
 -- the values of the states by number, where the device words are given
 abbrev pub held_by : List Cell → List Bits → ℕ → Value
-held_by cells words n = held_from words (first_of cells n)
+held_by cells words n = held_from words (cell_of cells n)
 
 -- the values of all nodes in a state under inputs
 abbrev pub values : List Line → List Bits → List Bits → ℕ → Value
@@ -72,3 +77,7 @@ state_widths (c ∷ cs) = replicate (size c.index) c.width ++ state_widths cs
 -- the widths of the input words
 abbrev pub input_widths : List Line → List ℕ
 input_widths lines = map (λ (p : Port). p.width) (inputs_of (reverse lines))
+
+-- the widths of the output words
+abbrev pub output_widths : List Line → List ℕ
+output_widths lines = map (λ (p : Port). p.width) (outputs_of (reverse lines))

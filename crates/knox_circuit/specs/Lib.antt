@@ -5,5 +5,6 @@ pub mod Resolved
 pub mod States
 pub mod Circuit
 pub mod Power
+pub mod Filled
 pub mod Form
 pub mod Whole

@@ -2,14 +2,15 @@
 -- order: a kept cell keeps its words; another state gets the value of its `init` over the states
 -- built before it, or its noise words where it has no `init`.
 -- The project's own.
-use Rattle.std.specs.Prelude.{ℕ, ◌==◌, ◌&&◌, ℤ, List, [], ◌∷◌, ◌++◌, take, drop, reverse, length, replicate, Bool, false, Option, Some, None, if◌then◌else◌}
+use Rattle.std.specs.Prelude.{ℕ, ◌==◌, ◌&&◌, ℤ, List, [], ◌∷◌, ◌++◌, take, drop, reverse, length, replicate, Bool, false, Option, Some, None, is_some, if◌then◌else◌}
 use Rattle.knox_words.specs.Bits.{Bits, word_at, word_or}
 use Rattle.knox_circuit.specs.declared.line.Line.{Line}
 use Rattle.knox_circuit.specs.declared.circuit.Cell.{Cell}
+use Rattle.knox_circuit.specs.Sorts.{state_sort}
 use Rattle.knox_circuit.specs.Meaning.{Value, given, zero_word, constant, operand, value_of}
-use Rattle.knox_circuit.specs.States.{StateLine, size, states_among}
+use Rattle.knox_circuit.specs.States.{StateLine, size, words_in, next_of, init_of, state_cell, if_none, cells_among, states_among}
 use Rattle.knox_words.specs.Lists.{fit}
-use Rattle.knox_circuit.specs.Circuit.{value_words, cells_of}
+use Rattle.knox_circuit.specs.Circuit.{Circuit, state_value, value_words, cells_of}
 
 abbrev pub first_keep : List Bool → Bool
 first_keep [] = false
@@ -26,8 +27,8 @@ noise_left index None noise = drop (size index) noise
 noise_left index (Some v) noise = noise
 
 -- the values by number, with one more state
-abbrev pub with_state : (ℕ → Value) → ℕ → List Bits → ℕ → Value
-with_state held n words m = if m == n then word_at words else held m
+abbrev pub with_state : (ℕ → Value) → ℕ → Option ℕ → List Bits → ℕ → Value
+with_state held n index words m = if m == n then state_value index (word_at words) else held m
 
 -- the device words, built state after state; `keep` has one truth value per cell
 abbrev pub built : List Line → (ℕ → Value) → List StateLine → List Bool → List Bits → List Bits → List Bits
@@ -38,7 +39,7 @@ built all held (s ∷ ss) keep old noise =
     let keep' = if s.is_cell then drop 1 keep else keep in
     let old' = if s.is_cell then drop (size s.index) old else old in
     let noise' = if kept then noise else noise_left s.index s.init noise in
-    (if s.is_cell then words else []) ++ built all (with_state held s.number words) ss keep' old' noise'
+    (if s.is_cell then words else []) ++ built all (with_state held s.number s.index words) ss keep' old' noise'
 
 -- no state has a value before the first is built
 abbrev pub nothing_held : ℕ → Value
@@ -72,10 +73,25 @@ abbrev pub fits_noise : List Line → List Bool → List Bits → Bool
 fits_noise lines keep noise =
     length keep == length (cells_of lines) && fit (noise_widths (states_of lines) keep) noise
 
--- what a power-cycle keeps of words of one width each, and their first words elsewhere
-abbrev pub kept_words : List Bool → List Bits → List Bits → List Bits
-kept_words keep old [] = []
-kept_words keep old (w ∷ ws) = (if first_keep keep then take 1 old else w ∷ []) ++ kept_words (drop 1 keep) (drop 1 old) ws
+-- whether a state is a cell that is kept: its truth value stands behind those of the cells before it
+abbrev pub is_kept_among : List Line → List Line → Line → List Bool → Bool
+is_kept_among all before l keep = is_some (next_of all l.number) && first_keep (drop (length (cells_among all before)) keep)
+
+abbrev pub noise_among : List Line → List Line → Line → Bool → ℕ → Option ℕ → List Cell
+noise_among all before l kept first None = []
+noise_among all before l kept first (Some s) =
+    if kept then [] else if_none (init_of all l.number) (state_cell before l s first ∷ [])
+
+-- the states whose words are noise words in a power-cycle that keeps some cells, over the lines from the last to the first
+abbrev pub noise_cells_among : List Line → List Bool → List Line → List Cell
+noise_cells_among all keep [] = []
+noise_cells_among all keep (l ∷ before) =
+    let cs = noise_cells_among all keep before in
+    cs ++ noise_among all before l (is_kept_among all before l keep) (words_in cs) (state_sort l.shape)
+
+-- these states in line order, bare ones too; each begins among the noise words where those before it end
+abbrev pub noise_cells : Circuit → List Bool → List Cell
+noise_cells c keep = noise_cells_among (reverse c.lines) keep (reverse c.lines)
 
 -- the words of the cells that are kept, in line order; `keep` has one truth value per cell
 abbrev pub persistent_words : List Cell → List Bool → List Bits → List Bits

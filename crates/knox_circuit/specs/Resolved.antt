@@ -1,5 +1,5 @@
 -- Lines with their operands by place, and what they give.
-use Rattle.std.specs.Prelude.{◌≡◌, ℕ, zero, suc, ◌+◌, ◌<◌, ◌==◌, ℤ, pos, negsuc, List, [], ◌∷◌, ◌++◌, length, slice_get, Option, Some, None, map, Bool, false, true, if◌then◌else◌}
+use Rattle.std.specs.Prelude.{◌≡◌, ℕ, zero, suc, ◌+◌, ◌<◌, ◌==◌, ℤ, pos, negsuc, List, [], ◌∷◌, ◌++◌, length, slice_get, Option, Some, None, map, false, true, if◌then◌else◌}
 use Rattle.knox_words.specs.Bits.{Bits, ite_value, word_at}
 use Rattle.knox_words.specs.Ops.{op1_value, op2_or}
 use Rattle.knox_words.specs.declared.op.Op1.TheVariants.{Not}
@@ -107,10 +107,6 @@ literal_operand all None = None
 literal_operand all (Some (pos n)) = literal_of all n
 literal_operand all (Some (negsuc n)) = None
 
--- the word of an `init` by a constant line
-abbrev pub init_word : List Line → Bool → Option ℤ → Option Bits
-init_word all is_cell init = if is_cell then literal_operand all init else None
-
--- the word that a cell gets by its `init`, where that is a constant line
+-- the word that a state gets by its `init`, where that is a constant line
 abbrev pub first_word : List Line → StateLine → Option Bits
-first_word all s = init_word all s.is_cell s.init
+first_word all s = literal_operand all s.init

@@ -73,6 +73,11 @@ bares_among all [] = []
 bares_among all (l ∷ before) =
     let cs = bares_among all before in cs ++ bare_among all before l (words_in cs) (state_sort l.shape)
 
+-- the cell with a number
+abbrev pub cell_of : List Cell → ℕ → Option Cell
+cell_of [] n = None
+cell_of (c ∷ cs) n = if c.number == n then Some c else cell_of cs n
+
 -- the first word of the cell with a number
 abbrev pub first_of : List Cell → ℕ → Option ℕ
 first_of [] n = None

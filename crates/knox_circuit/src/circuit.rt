@@ -1,10 +1,10 @@
 //! Circuits, their states and what they are given.
-ghost use Rattle.std.specs.Prelude.{◌≡◌, ◌≢◌, ◌≤◌, [], length, map, reverse, vec_len, true, false, IfOk, IfErr};
+ghost use Rattle.std.specs.Prelude.{◌≡◌, ◌≢◌, ◌≤◌, ◌==◌, [], length, map, reverse, vec_len, true, false, IfOk, IfErr};
 ghost use Rattle.knox_words.specs.Lists.{fit};
 ghost use Rattle.knox_circuit.specs.Circuit.{Circuit, Sizes, sizes_of, cells_of, output_words, state_after_tick, state_widths, input_widths};
 ghost use Rattle.knox_circuit.specs.Form.{IsInForm};
 ghost use Rattle.knox_circuit.specs.Ports.{inputs_of, outputs_of};
-ghost use Rattle.knox_circuit.specs.Power.{factory_state, state_after_power, fits_noise, noise_widths, states_of};
+ghost use Rattle.knox_circuit.specs.Power.{factory_state, state_after_power, fits_noise, noise_cells, noise_widths, states_of};
 ghost use Rattle.knox_circuit.specs.States.{bares_among, words_in};
 ghost use Rattle.knox_circuit.specs.Whole.{is_complete, IsTabled};
 
@@ -49,7 +49,8 @@ pub struct Inputs {
     pub words: Words,
 }
 
-/// The words of the states that have neither `init` nor kept words, in line order.
+/// The words of the states that have neither `init` nor kept words, in line order: those of the
+/// factory or of a power-cycle.
 #[derive(Debug, Drop)]
 pub struct Noise {
     pub words: Words,
@@ -256,50 +257,87 @@ impl Circuit {
     }
 
     /// Whether noise words fit a factory.
-    #[tactic(auto, using(crate::proofs::Powered::noise_lists))]
     pub fn fits_factory(&self, n: &Noise) -> bool
         ensures { result ≡ fit (noise_widths (states_of self.now.lines) []) n.now.words }
     {
-        let _states = &self.tables.first_words;
-        n.words.is_empty()
+        power::fits_noise(
+            &[],
+            self.tables.first_words.as_slice(),
+            self.tables.state_widths.as_slice(),
+            n.words.as_slice(),
+        )
+    }
+
+    /// Whether neither the factory nor any power-cycle takes noise words.
+    #[tactic(auto, using(crate::proofs::Noisy::none_fits))]
+    pub fn takes_no_noise(&self) -> bool
+        ensures { result ≡ (length (noise_widths (states_of self.now.lines) []) == 0) }
+    {
+        self.fits_factory(&Noise {
+            words: Words::new(self.alloc),
+        })
     }
 
     /// Whether noise words fit a power-cycle that keeps some cells, with one truth value per cell.
-    #[tactic(auto, using(crate::proofs::Powered::noise_lists))]
+    #[tactic(auto, using(crate::proofs::Noisy::noise_unfit))]
     pub fn fits_noise(&self, keep: &[bool], n: &Noise) -> bool
         ensures { result ≡ fits_noise self.now.lines keep.now n.now.words }
     {
         if keep.len() != self.tables.cells.len() {
             return false;
         }
-        n.words.is_empty()
+        power::fits_noise(
+            keep,
+            self.tables.first_words.as_slice(),
+            self.tables.state_widths.as_slice(),
+            n.words.as_slice(),
+        )
     }
 
-    /// The factory state.
-    #[tactic(auto, using(crate::proofs::Powered::power_steps))]
+    /// The states whose words are noise words in a power-cycle that keeps some cells, in line
+    /// order: bare states, and cells without `init` that aren't kept. `first` is the place of a
+    /// state's first word among the noise words. The factory's are those where none is kept.
+    pub fn noise_cells(&self, keep: &[bool]) -> Result<Items<Cell>, AllocError>
+        ensures { IfOk result (λ found. found ≡ noise_cells self.now keep.now) }
+    {
+        let found = power::noise_cells(
+            self.alloc,
+            keep,
+            self.tables.first_words.as_slice(),
+            self.tables.cells.as_slice(),
+        )?;
+        Ok(found)
+    }
+
+    /// The factory state. Each cell gets the word of its `init`, or a noise word where it has none.
     pub fn factory(&self, n: &Noise) -> Result<State, AllocError>
         ensures words { IfOk result (λ s. s.words ≡ factory_state self.now.lines n.now.words) }
-        ensures count { IfOk result (λ s. length s.words ≡ words_in (cells_of self.now.lines)) }
+        ensures count { fit (noise_widths (states_of self.now.lines) []) n.now.words ≡ true → IfOk result (λ s. length s.words ≡ words_in (cells_of self.now.lines)) }
     {
-        let _noise = &n.words;
-        let words = self.tables.first_words.copy(self.alloc)?;
+        let words = power::power_words(
+            self.alloc,
+            &[],
+            &[],
+            self.tables.first_words.as_slice(),
+            n.words.as_slice(),
+        )?;
         Ok(State { words })
     }
 
-    /// The state after a power-cycle that keeps some cells.
-    #[tactic(auto, using(crate::proofs::Powered::power_steps))]
+    /// The state after a power-cycle that keeps some cells. Each of the others gets the word of
+    /// its `init`, or a noise word where it has none.
     pub fn power(&self, keep: &[bool], s: &State, n: &Noise) -> Result<State, AllocError>
         requires keep { length keep.now ≡ length (cells_of self.now.lines) }
         requires state { length s.now.words ≡ words_in (cells_of self.now.lines) }
         ensures words { IfOk result (λ after. after.words ≡ state_after_power self.now.lines keep.now s.now.words n.now.words) }
-        ensures count { IfOk result (λ after. length after.words ≡ words_in (cells_of self.now.lines)) }
+        ensures count { fit (noise_widths (states_of self.now.lines) keep.now) n.now.words ≡ true → IfOk result (λ after. length after.words ≡ words_in (cells_of self.now.lines)) }
     {
-        let _noise = &n.words;
-        let words = power::kept_words(
+        let words = power::power_words(
             self.alloc,
             keep,
             s.words.as_slice(),
             self.tables.first_words.as_slice(),
+            n.words.as_slice(),
         )?;
         Ok(State { words })
     }

@@ -58,7 +58,7 @@ impl Draft {
         Ok(())
     }
 
-    /// The circuit of the lines. Refused where a state isn't a cell with an `init` by a constant.
+    /// The circuit of the lines. Refused where a state has no `next`.
     #[tactic(auto, using(crate::proofs::Formed::draft_steps))]
     pub fn finish(self) -> Result<Circuit, BtorFault>
         ensures ok { IfOk result (λ c. c.lines ≡ self.lines) }

@@ -4,8 +4,8 @@ ghost use Rattle.std.specs.List.{list_all};
 ghost use Rattle.knox_words.specs.Bits.{Bits};
 ghost use Rattle.knox_words.specs.Lists.{fit, are_widths};
 ghost use Rattle.knox_circuit.specs.declared.circuit.Cell.{Cell};
-ghost use Rattle.knox_circuit.specs.Circuit.{cells_of, state_after_tick, state_widths, input_widths};
-ghost use Rattle.knox_circuit.specs.Power.{factory_state, state_after_power, noise_widths, states_of, persistent_words, persistent_widths, spread_words};
+ghost use Rattle.knox_circuit.specs.Circuit.{cells_of, output_words, state_after_tick, state_widths, input_widths, output_widths};
+ghost use Rattle.knox_circuit.specs.Power.{factory_state, state_after_power, noise_cells, noise_widths, states_of, persistent_words, persistent_widths, spread_words};
 ghost use Rattle.knox_circuit.specs.States.{words_in};
 
 use crate::circuit::Circuit;
@@ -20,13 +20,21 @@ pub fn circuits_keep_widths(c: &Circuit)
     let _tables = c.tables();
 }
 
-/// The widths of a circuit's words are widths, there are as many device words as the cells have,
-/// and no power-cycle takes noise.
+/// Output words have the widths of their lines' nodes.
+pub fn outputs_have_widths(c: &Circuit)
+    ensures { (state inputs : List Bits) → fit (state_widths (cells_of c.now.lines)) state ≡ true → fit (input_widths c.now.lines) inputs ≡ true → fit (output_widths c.now.lines) (output_words c.now.lines state inputs) ≡ true }
+{
+    let _tables = c.tables();
+}
+
+/// The widths of a circuit's words are widths, those of noise words too. There are as many device
+/// words as the cells have, and the noise words are those of the states that take them.
 pub fn circuits_have_widths(c: &Circuit)
     ensures state { are_widths (state_widths (cells_of c.now.lines)) ≡ true }
     ensures inputs { are_widths (input_widths c.now.lines) ≡ true }
     ensures count { (state : List Bits) → fit (state_widths (cells_of c.now.lines)) state ≡ true → length state ≡ words_in (cells_of c.now.lines) }
-    ensures noise { (keep : List Bool) → noise_widths (states_of c.now.lines) keep ≡ [] }
+    ensures noise { (keep : List Bool) → are_widths (noise_widths (states_of c.now.lines) keep) ≡ true }
+    ensures noise_cells { (keep : List Bool) → state_widths (noise_cells c.now keep) ≡ noise_widths (states_of c.now.lines) keep }
 {
     let _tables = c.tables();
 }

@@ -21,7 +21,7 @@ pub use circuit::{Cell, Circuit, Inputs, Noise, Port, Scratch, State};
 pub use draft::Draft;
 pub use fault::{BtorFault, Why};
 pub use laws::{
-    cells_are_single_words, circuits_have_widths, circuits_keep_widths,
+    cells_are_single_words, circuits_have_widths, circuits_keep_widths, outputs_have_widths,
     persistent_words_are_spread, power_keeps_persistent_words,
 };
 pub use line::{Line, Shape};

@@ -13,12 +13,12 @@ use crate::line::{Line, Shape};
 use crate::naming::{self, Kind};
 use crate::node::{Arg, Node};
 use crate::{form, look};
-use knox_words::{Word, Words};
+use knox_words::Word;
 use sqlite_items::Items;
 use std::alloc::{AllocError, Global};
 
 /// The ports, states and nodes of a circuit, with the operands of outputs and of `next` lines by
-/// their places, and the words that cells get by their `init`.
+/// their places, and the words that cells get by their `init`, where they have one.
 #[derive(Drop)]
 pub struct Tables {
     pub inputs: Items<Port>,
@@ -28,7 +28,7 @@ pub struct Tables {
     pub nodes: Items<Node>,
     pub output_args: Items<Arg>,
     pub next_args: Items<Arg>,
-    pub first_words: Words,
+    pub first_words: Items<Option<Word>>,
     pub input_widths: Items<u8>,
     pub state_widths: Items<u8>,
 }

@@ -1,17 +1,18 @@
 -- The tokens of a text are read again where they are printed.
-use Rattle.std.proofs.Common.{◌≡◌, ℕ, zero, suc, ◌+◌, ◌-◌, ◌*◌, ◌/◌, ◌%◌, ◌^◌, ◌≤◌, ◌<◌, Bool, true, false, eqb, ltb, leb, cond, ◌&&◌, ◌⊎◌, List, [], ◌∷◌, ◌++◌, length, map, Option, Some, None, refl, sym, ap, subst, ◌∙◌, arith, inl, inr}
+use Rattle.std.proofs.Common.{◌≡◌, ℕ, zero, suc, ◌+◌, ◌*◌, ◌/◌, ◌%◌, ◌^◌, ◌≤◌, ◌<◌, Bool, true, false, eqb, ltb, leb, cond, ◌&&◌, ◌⊎◌, List, [], ◌∷◌, ◌++◌, length, map, Option, Some, None, refl, sym, ap, subst, ◌∙◌, arith, inl, inr}
 use Rattle.std.specs.List.{AllByRecursion, list_all}
 use Rattle.std.specs.Fmt.{decimal}
-use Rattle.std.specs.Str.Parse.{AllDigits, digits_value_after}
+use Rattle.std.specs.Str.Parse.{AllDigits, digits_value, digits_value_after}
 use Rattle.std.specs.Char.{digit_value}
-use Rattle.std.proofs.lemmas.Bool.{ltb-true, ltb-false, le-ltb, lt-ltb, leb-true, le-leb}
+use Rattle.std.proofs.lemmas.Bool.{ltb-true, ltb-false, lt-ltb, leb-true, le-leb}
 use Rattle.std.proofs.lemmas.List.{length-append}
-use Rattle.std.proofs.lemmas.List.Sums.{fold-append}
+use Rattle.std.proofs.lemmas.Int.Digits.{digits_value_push}
 use Rattle.std.proofs.lemmas.Fmt.{decimal_is_IsNumeral_wide}
 use Rattle.std.proofs.Math.Nat.{pow-suc, pow-le-pow_right, mul-le-mul_right, mul_assoc}
 use Rattle.knox_text.specs.declared.place.Place.{Place}
 use Rattle.knox_text.specs.Places.{next, behind, first_place}
-use Rattle.knox_text.specs.Numbers.{digit_of, is_digit, value, value_behind}
+use Rattle.knox_text.specs.Numbers.{is_digit}
+use Rattle.knox_text.proofs.Decimals.{digit-range, all-digits}
 use Rattle.knox_text.proofs.Numbering.{bool_cases}
 use Rattle.knox_sexpr.specs.declared.token.Token.{Token}
 use Rattle.knox_sexpr.specs.declared.token.Token.TheVariants.{Atom, Number}
@@ -96,14 +97,14 @@ pub record IsBinary (n v : ℕ) (bytes : List ℕ) : Type 0 where
   pub len : length bytes ≡ n
   pub run : run_at bytes ≡ bytes
   pub digits : list_all (is_digit 2) bytes ≡ true
-  pub value : value 2 bytes ≡ v
+  pub value : digits_value 2 bytes ≡ v
 
-binary-push : (n v : ℕ) (bytes : List ℕ) (b bit : ℕ) → IsBinary n v bytes → is_word b ≡ true → is_digit 2 b ≡ true → digit_of b ≡ bit → IsBinary (suc n) (v * 2 + bit) (bytes ++ b ∷ [])
+binary-push : (n v : ℕ) (bytes : List ℕ) (b bit : ℕ) → IsBinary n v bytes → is_word b ≡ true → is_digit 2 b ≡ true → digit_value b ≡ bit → IsBinary (suc n) (v * 2 + bit) (bytes ++ b ∷ [])
 binary-push n v bytes b bit h w d e = record {
   len = omega (arith, length-append bytes (b ∷ []), h.len);
   run = run-push bytes b h.run w;
   digits = all-push (is_digit 2) bytes b h.digits d;
-  value = fold-append (λ a x. a * 2 + digit_of x) 0 bytes (b ∷ []) ∙ omega (arith, h.value, e);
+  value = digits_value_push 2 bytes b ∙ omega (arith, h.value, e);
 }
 
 binary-is : (n v : ℕ) → v < 2 ^ n → IsBinary n v (binary n v)
@@ -127,7 +128,7 @@ leaf-value : (q : Place) (n v : ℕ) (bytes : List ℕ) → IsBinary n v bytes �
 leaf-value q n v bytes h low high lt =
     let some : ltb 0 (length bytes) ≡ true = lt-ltb _ _ (omega (arith, h.len)) in
     let few : leb (length bytes) 128 ≡ true = le-leb _ _ (omega (arith, h.len)) in
-    let fits : ltb (value 2 bytes) (2 ^ 128) ≡ true = lt-ltb _ _ (omega (arith, h.value)) in
+    let fits : ltb (digits_value 2 bytes) (2 ^ 128) ≡ true = lt-ltb _ _ (omega (arith, h.value)) in
     let width : 1 * length bytes ≡ n = omega (arith, h.len) in
     rw (some, few, h.digits, fits) cc (width, h.value)
 
@@ -140,33 +141,6 @@ binary-leaf (suc n) v low high lt =
 
 -- ---- decimal digits
 
-digit-range : (b : ℕ) → digit_value b < 10 → (48 ≤ b) × (b < 58)
-digit-range b h = elim (bool_cases (ltb b 48)) [
-  | inl y ↦ let never : 36 < 10 = rw y at h in absurd (omega arith)
-  | inr n ↦ elim (bool_cases (ltb b 58)) [
-    | inl y ↦ (ltb-false b 48 n, ltb-true b 58 y)
-    | inr m ↦ elim (bool_cases (ltb b 65)) [
-      | inl y ↦ let never : 36 < 10 = rw (n, m, y) at h in absurd (omega arith)
-      | inr k ↦ elim (bool_cases (ltb b 91)) [
-        | inl y ↦ let low : b - 55 < 10 = rw (n, m, k, y) at h in absurd (omega (arith, ltb-false b 65 k))
-        | inr j ↦ elim (bool_cases (ltb b 97)) [
-          | inl y ↦ let never : 36 < 10 = rw (n, m, k, j, y) at h in absurd (omega arith)
-          | inr i ↦ elim (bool_cases (ltb b 123)) [
-            | inl y ↦ let low : b - 87 < 10 = rw (n, m, k, j, i, y) at h in absurd (omega (arith, ltb-false b 97 i))
-            | inr g ↦ let never : 36 < 10 = rw (n, m, k, j, i, g) at h in absurd (omega arith)
-          ]
-        ]
-      ]
-    ]
-  ]
-]
-
-std-digit : (b : ℕ) → 48 ≤ b → b < 58 → digit_value b ≡ b - 48
-std-digit b low high = rw (le-ltb b 48 low, lt-ltb b 58 high) refl
-
-own-digit : (b : ℕ) → 48 ≤ b → b < 58 → digit_of b ≡ b - 48
-own-digit b low high = let top : b ≤ 57 = omega arith in rw (le-leb 48 b low, le-leb b 57 top) refl
-
 digit-word : (b : ℕ) → 48 ≤ b → b < 58 → is_word b ≡ true
 digit-word b low high =
     let bottom : 33 ≤ b = omega arith in
@@ -174,44 +148,27 @@ digit-word b low high =
     let parted : eqb b 59 ≡ false = not-eqb b 59 (λ e. omega arith) in
     rw (le-leb 33 b bottom, le-leb b 126 top, not-eqb b 40 (λ e. omega arith), not-eqb b 41 (λ e. omega arith), parted) refl
 
-decimal-digit : (b : ℕ) → 48 ≤ b → b < 58 → is_digit 10 b ≡ true
-decimal-digit b low high = lt-ltb _ _ (omega (arith, own-digit b low high))
-
-record IsDecimal (bytes : List ℕ) : Type 0 where
-  run : run_at bytes ≡ bytes
-  digits : list_all (is_digit 10) bytes ≡ true
-  value : (a : ℕ) → value_behind 10 a bytes ≡ digits_value_after 10 a bytes
-
-decimal-is : (bytes : List ℕ) → AllDigits 10 bytes → IsDecimal bytes
-decimal-is [] all = record { run = refl; digits = refl; value = λ a. refl }
-decimal-is (b ∷ bytes) all =
-    let range = digit-range b all.0 in
-    let rest = decimal-is bytes all.1 in
-    record {
-      run = rw (digit-word b range.0 range.1) (ap (λ (w : List ℕ). b ∷ w) rest.run);
-      digits = rw (decimal-digit b range.0 range.1) rest.digits;
-      value = λ a. rest.value (a * 10 + digit_of b) ∙ ap (λ (d : ℕ). digits_value_after 10 (a * 10 + d) bytes) (own-digit b range.0 range.1 ∙ sym (std-digit b range.0 range.1));
-    }
+decimal-run : (bytes : List ℕ) → AllDigits 10 bytes → run_at bytes ≡ bytes
+decimal-run [] all = refl
+decimal-run (b ∷ bytes) all = let range = digit-range b all.0 in rw (digit-word b range.0 range.1) (ap (λ (w : List ℕ). b ∷ w) (decimal-run bytes all.1))
 
 if-true : (t : Bool) (x y : Token) → t ≡ true → cond t x y ≡ x
 if-true true x y e = refl
 if-true false x y e = absurd cc
 
-decimal-token : (q : Place) (v : ℕ) (bytes : List ℕ) → 0 < length bytes → AllDigits 10 bytes → value 10 bytes ≡ v → v < 2 ^ 128 → word_token q bytes ≡ Number q 0 v
+decimal-token : (q : Place) (v : ℕ) (bytes : List ℕ) → 0 < length bytes → AllDigits 10 bytes → digits_value 10 bytes ≡ v → v < 2 ^ 128 → word_token q bytes ≡ Number q 0 v
 decimal-token q v [] some all e lt = absurd (omega arith)
 decimal-token q v (b ∷ bytes) some all e lt =
-    let range = digit-range b all.0 in
-    let d = decimal-digit b range.0 range.1 in
-    let digits = (decimal-is (b ∷ bytes) all).digits in
-    let fits : ltb (value 10 (b ∷ bytes)) (2 ^ 128) ≡ true = lt-ltb _ _ (omega (arith, e)) in
+    let d : is_digit 10 b ≡ true = lt-ltb _ _ all.0 in
+    let digits = all-digits 10 (b ∷ bytes) all in
+    let fits : ltb (digits_value 10 (b ∷ bytes)) (2 ^ 128) ≡ true = lt-ltb _ _ (omega (arith, e)) in
     let given : value_if 10 (b ∷ bytes) ≡ Some v = value-as 10 (b ∷ bytes) true true digits fits ∙ ap (λ (n : ℕ). Some n) e in
     if-true (is_digit 10 b) (number_or_bad q 0 (value_if 10 (b ∷ bytes))) _ d ∙ ap (number_or_bad q 0) given
 
 pub decimal-leaf : (v : ℕ) → v < 2 ^ 128 → IsLeaf (number_bytes 0 v) (λ q. Number q 0 v)
 decimal-leaf v lt =
     let h = decimal_is_IsNumeral_wide v (omega arith) in
-    let d = decimal-is (decimal v) h.0.1 in
-    (h.0.0, d.run, λ q. decimal-token q v (decimal v) h.0.0 h.0.1 (d.value 0 ∙ h.1) lt)
+    (h.0.0, decimal-run (decimal v) h.0.1, λ q. decimal-token q v (decimal v) h.0.0 h.0.1 h.1 lt)
 
 -- ---- tokens of a text
 
@@ -257,7 +214,7 @@ runs [] = tt
 runs (x ∷ xs) = with-run (kind x.byte) x xs (pieces xs) refl (runs xs)
 
 -- digits of k bits each
-bound : (radix k : ℕ) → ((m : ℕ) → 2 ^ (k * suc m) ≡ radix * 2 ^ (k * m)) → (a limit : ℕ) (ds : List ℕ) → list_all (is_digit radix) ds ≡ true → a < limit → value_behind radix a ds < limit * 2 ^ (k * length ds)
+bound : (radix k : ℕ) → ((m : ℕ) → 2 ^ (k * suc m) ≡ radix * 2 ^ (k * m)) → (a limit : ℕ) (ds : List ℕ) → list_all (is_digit radix) ds ≡ true → a < limit → digits_value_after radix a ds < limit * 2 ^ (k * length ds)
 bound radix k step a limit [] h lt =
     let none : k * 0 ≡ 0 = omega arith in
     rw none (omega arith)
@@ -266,9 +223,9 @@ bound radix k step a limit (d ∷ ds) h lt = elim (bool_cases (is_digit radix d)
   | inl y ↦
       let more : list_all (is_digit radix) ds ≡ true = rw y at h in
       let room : suc a * radix ≤ limit * radix = mul-le-mul_right radix lt in
-      let below : digit_of d < radix = ltb-true _ _ y in
-      let next_lt : a * radix + digit_of d < limit * radix = omega (arith, room, below) in
-      let rest = bound radix k step (a * radix + digit_of d) (limit * radix) ds more next_lt in
+      let below : digit_value d < radix = ltb-true _ _ y in
+      let next_lt : a * radix + digit_value d < limit * radix = omega (arith, room, below) in
+      let rest = bound radix k step (a * radix + digit_value d) (limit * radix) ds more next_lt in
       let same : limit * radix * 2 ^ (k * length ds) ≡ limit * 2 ^ (k * suc (length ds)) = mul_assoc limit radix (2 ^ (k * length ds)) ∙ ap (λ (n : ℕ). limit * n) (sym (step (length ds))) in
       omega (arith, rest, same)
 ]
@@ -308,7 +265,7 @@ based-good at radix k most step low fits ds =
     let b = both-true (ltb 0 (length ds)) (leb (length ds) most) e in
     let w = fits (length ds) (ltb-true _ _ b.0) (leb-true _ _ b.1) in
     number-good at (k * length ds) (value_if radix ds) (λ v g.
-    let parts = chosen-value (list_all (is_digit radix) ds) (ltb (value radix ds) (2 ^ 128)) (value radix ds) v g in
+    let parts = chosen-value (list_all (is_digit radix) ds) (ltb (digits_value radix ds) (2 ^ 128)) (digits_value radix ds) v g in
     let lt = bound radix k step 0 1 ds parts.0 (omega arith) in
     binary-leaf (k * length ds) v w.0 w.1 (omega (arith, lt, parts.2)))) (λ e. tt)
 
@@ -325,7 +282,7 @@ word-good : (at : Place) (word : List ℕ) → 0 < length word → run_at word �
 word-good at [] some run = absurd (omega arith)
 word-good at (b ∷ word) some run = if-good (is_digit 10 b) _ _
     (λ e. number-good at 0 (value_if 10 (b ∷ word)) (λ v g.
-    let parts = chosen-value (list_all (is_digit 10) (b ∷ word)) (ltb (value 10 (b ∷ word)) (2 ^ 128)) (value 10 (b ∷ word)) v g in
+    let parts = chosen-value (list_all (is_digit 10) (b ∷ word)) (ltb (digits_value 10 (b ∷ word)) (2 ^ 128)) (digits_value 10 (b ∷ word)) v g in
     let lt = ltb-true _ _ parts.1 in
     decimal-leaf v (omega (arith, lt, parts.2))))
     (λ e. if-good (eqb b 35) _ _ (λ f. sized-good at word) (λ f. (some, run, λ q. if-false (is_digit 10 b) _ _ e ∙ if-false (eqb b 35) _ (Atom q (b ∷ word)) f)))

@@ -4,4 +4,5 @@ pub mod Inside
 pub mod Numbers
 pub mod Examples
 pub mod Lines
+pub mod Tokens
 pub mod Pieces

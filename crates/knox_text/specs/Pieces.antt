@@ -1,6 +1,7 @@
 -- How far lines, blanks and tokens go.
 use Rattle.std.specs.Prelude.{ℕ, suc, ◌==◌, ◌&&◌, ◌||◌, Bool, false, if◌then◌else◌, List, [], ◌∷◌}
-use Rattle.knox_text.specs.Lines.{begins_with, is_blank}
+use Rattle.knox_text.specs.Lines.{begins_with}
+use Rattle.knox_text.specs.Tokens.{is_blank}
 
 -- whether a text begins with what ends a line
 abbrev pub ends_line : List ℕ → Bool

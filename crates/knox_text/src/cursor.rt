@@ -1,8 +1,9 @@
 //! A cursor over the bytes of a text, and the numbers that it reads.
 ghost use Rattle.std.specs.Prelude.{◌≡◌, ◌≤◌, ◌<◌, ◌+◌, ◌*◌, ◌^◌, ◌⊎◌, SomeIff, OnOk, length, slice_get};
-ghost use Rattle.knox_text.specs.Places.{start_of, moved, past};
-ghost use Rattle.knox_text.specs.Numbers.{digit_of, digits_at, number_at, past_number};
+ghost use Rattle.knox_text.specs.Places.{start_of, end_of, moved, past};
+ghost use Rattle.knox_text.specs.Numbers.{digits_at, number_at, past_number};
 
+use crate::number::digit;
 use crate::place::Place;
 use std::marker::Model;
 
@@ -108,18 +109,6 @@ impl<'a> Cursor<'a> {
     }
 }
 
-/// What a byte is worth as a digit, or 16 where it is none.
-fn digit(byte: u8) -> u8
-    ensures { result ≡ digit_of byte }
-{
-    match byte {
-        b'0'..=b'9' => byte - b'0',
-        b'A'..=b'F' => byte - 55,
-        b'a'..=b'f' => byte - 87,
-        _ => 16,
-    }
-}
-
 /// The value with one more digit, if it is below 2 ^ 128.
 fn with_digit(value: u128, radix: u32, digit: u8) -> Option<u128>
     ensures { SomeIff result (value * radix + digit < 2 ^ 128) (value * radix + digit) }
@@ -128,4 +117,16 @@ fn with_digit(value: u128, radix: u32, digit: u8) -> Option<u128>
         None => None,
         Some(value) => value.checked_add(u128::from(digit)),
     }
+}
+
+/// The place of the end of a text.
+pub fn end_place(text: &[u8]) -> Place
+    requires { length text.now ≤ 67108864 }
+    ensures { result ≡ end_of (start_of text.now) }
+{
+    let mut cursor = Cursor::new(text);
+    while cursor.peek().is_some() {
+        cursor.bump();
+    }
+    cursor.place()
 }

@@ -1,8 +1,7 @@
-//! Lines and tokens, cut off one after the other. The place of a token in its line is the line's
-//! length without those of the token and of what is left.
+//! Lines, cut off the front of a text one after the other.
 ghost use Rattle.std.specs.Prelude.{◌≡◌, ◌≤◌, ◌<◌, ◌+◌, ◌∷◌, [], length, drop, IfSome, IfNone};
-ghost use Rattle.knox_text.specs.Lines.{lines, tokens, is_blank};
-ghost use Rattle.knox_text.specs.Pieces.{ends_line, line_length, behind_end, behind_feed, skipped, token_length};
+ghost use Rattle.knox_text.specs.Lines.{lines, begins_with as begins_with_byte};
+ghost use Rattle.knox_text.specs.Pieces.{ends_line, line_length, behind_end, behind_feed};
 
 /// A piece of a text, and the bytes behind it.
 #[derive(Clone, Copy)]
@@ -13,7 +12,7 @@ pub struct Cut<'a> {
 
 /// The first line of a text without what ends it, and the text behind it. `None` where no byte is
 /// left.
-#[tactic(auto, using(crate::proofs::Cutting::cut_steps))]
+#[tactic(auto, using(crate::proofs::LineLemmas::cut_steps))]
 pub fn cut_line(text: &[u8]) -> Option<Cut<'_>>
     ensures line { IfSome result (λ c. lines text.now ≡ c.piece.now ∷ lines c.rest.now) }
     ensures shorter { IfSome result (λ c. length c.rest.now < length text.now) }
@@ -29,21 +28,14 @@ pub fn cut_line(text: &[u8]) -> Option<Cut<'_>>
     })
 }
 
-/// The first token of a line, and the line behind it. `None` where no token is left.
-#[tactic(auto, using(crate::proofs::Cutting::cut_steps))]
-pub fn cut_token(line: &[u8]) -> Option<Cut<'_>>
-    ensures token { IfSome result (λ c. tokens line.now ≡ c.piece.now ∷ tokens c.rest.now) }
-    ensures none { IfNone result (tokens line.now ≡ []) }
+/// Whether a text, a line or a token begins with a byte.
+pub fn begins_with(byte: u8, text: &[u8]) -> bool
+    ensures { result ≡ begins_with_byte byte text.now }
 {
-    let start = skip_blanks(line);
-    if start.is_empty() {
-        return None;
+    match text {
+        [] => false,
+        [first, ..] => *first == byte,
     }
-    let end = token_length(start);
-    Some(Cut {
-        piece: &start[..end],
-        rest: &start[end..],
-    })
 }
 
 fn ends_line(text: &[u8]) -> bool
@@ -56,7 +48,7 @@ fn ends_line(text: &[u8]) -> bool
     }
 }
 
-#[tactic(auto, using(crate::proofs::Cutting::length_steps))]
+#[tactic(auto, using(crate::proofs::LineLemmas::length_steps))]
 fn line_length(text: &[u8]) -> usize
     ensures value { result ≡ line_length text.now }
     ensures within { result ≤ length text.now }
@@ -90,35 +82,4 @@ fn behind_end(text: &[u8]) -> &[u8]
             }
         }
     }
-}
-
-fn is_blank(byte: u8) -> bool
-    ensures { result ≡ is_blank byte }
-{
-    byte == b' ' || byte == b'\t'
-}
-
-fn skip_blanks(line: &[u8]) -> &[u8]
-    ensures { result.now ≡ skipped line.now }
-{
-    let mut rest = line;
-    while let [byte, more @ ..] = rest {
-        if !is_blank(*byte) {
-            break;
-        }
-        rest = more;
-    }
-    rest
-}
-
-#[tactic(auto, using(crate::proofs::Cutting::length_steps))]
-fn token_length(text: &[u8]) -> usize
-    ensures value { result ≡ token_length text.now }
-    ensures within { result ≤ length text.now }
-{
-    let mut end = 0;
-    while end < text.len() && !is_blank(text[end]) {
-        end += 1;
-    }
-    end
 }

@@ -4,7 +4,7 @@ use Rattle.std.proofs.Math.Nat.{eq-or-lt_of_le}
 use Rattle.knox_words.specs.Lists.{Words}
 use Rattle.knox_theory.specs.Design.{Design}
 use Rattle.knox_theory.specs.Script.{Script}
-use Rattle.knox_theory.specs.Course.{Failed, Safe, run}
+use Rattle.knox_theory.specs.Course.{Safe, used}
 use Rattle.knox_theory.specs.Segments.{Segment, segments}
 use Rattle.knox_theory.specs.Closed.{Closed, ClosedBelow, IsAmong}
 use Rattle.knox_theory.proofs.Listed.{safe-closed}
@@ -14,7 +14,7 @@ use Rattle.script_core.specs.declared.parts.HintNo.{HintNo}
 use Rattle.script_core.specs.declared.parts.Choices.{Choices}
 use Rattle.script_core.specs.declared.decide.Checked.{Checked}
 use Rattle.script_core.specs.declared.decide.Checked.TheVariants as checked
-use Rattle.script_core.specs.Decisions.{Checks}
+use Rattle.script_core.specs.Decisions.{Falsifying, Checks}
 use Rattle.knox_verify.specs.Judgements.{Parts, design, hints, NarrowBefore, Narrow, Undecides, IsTooWide}
 
 -- where a segment stands on a list
@@ -108,11 +108,13 @@ held-more gs n below held safe fits =
 
 -- the first that is falsified
 pub undecided : (p : Parts) (n h : ℕ) (cs : Words) → n < length (segments (design p) (hints p)) → HoldBelow (segments (design p) (hints p)) n →
-    run (course_at (segments (design p) (hints p)) n) cs ≡ Failed h → counted (bits_at (segments (design p) (hints p)) n) ≤ 20 → Undecides p h cs
-undecided p n h cs there held fails fits =
+    Falsifying (course_at (segments (design p) (hints p)) n) h cs → counted (bits_at (segments (design p) (hints p)) n) ≤ 20 → Undecides p h cs
+undecided p n h cs there held falsifying fits =
     let r = cut (segments (design p) (hints p)) n there in
+    let here : Falsifying r.segment.course h cs = subst (λ o. Falsifying (course_of o) h cs) r.there falsifying in
     record {
-      falsified = record { segment = r.segment; listed = r.listed; fails = subst (λ o. run (course_of o) cs ≡ Failed h) r.there fails };
+      falsified = record { segment = r.segment; listed = r.listed; fails = here.fails };
+      taken = here.taken;
       fits = subst (λ o. counted (bits_of o) ≤ 20) r.there fits;
       below = below-cut (design p) (hints p) n r held;
       narrow = narrow-before p n r held;

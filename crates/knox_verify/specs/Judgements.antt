@@ -5,6 +5,7 @@ use Rattle.knox_theory.specs.Agreement.{AgreeOnWires}
 use Rattle.knox_theory.specs.Design.{Design}
 use Rattle.knox_theory.specs.Script.{Script}
 use Rattle.knox_theory.specs.Segments.{Segment, segments}
+use Rattle.knox_theory.specs.Course.{used}
 use Rattle.knox_theory.specs.Closed.{Closed, ClosedBelow, Falsifies, IsAmong, StartsRefined}
 use Rattle.knox_circuit.specs.Circuit.{Circuit}
 use Rattle.knox_lang.specs.declared.parts.SpecParts.{SpecParts}
@@ -57,9 +58,10 @@ pub record Agrees (p : Parts) : Type 0 where
   pub starts : StartsRefined (design p) (hints p)
   pub agree : AgreeOnWires (device p)
 
--- these choices falsify a hint of a segment of at most 20 bits; no segment before it takes more, and no choices falsify a hint of one
+-- these choices falsify a hint of a segment of at most 20 bits, and are the words that its run takes; no segment before it takes more, and no choices falsify a hint of one
 pub record Undecides (p : Parts) (hint : ℕ) (choices : Words) : Type 0 where
   pub falsified : Falsifies (design p) (hints p) hint choices
+  pub taken : used falsified.segment.course choices ≡ choices
   pub fits : counted falsified.segment.choice_bits ≤ 20
   pub below : ClosedBelow (design p) (hints p) falsified.segment.hint
   pub narrow : NarrowBefore p falsified.segment

@@ -1,5 +1,5 @@
 -- What is printed of a formula that a text means, means it.
-use Rattle.std.proofs.Common.{◌≡◌, ℕ, zero, suc, ◌+◌, ◌^◌, ◌≤◌, ◌<◌, ◌==◌, Bool, true, false, not, ◌&&◌, if◌then◌else◌, List, [], ◌∷◌, ◌++◌, length, map, append_assoc, length-append, Some, None, Result, Ok, Err, refl, sym, ap, ◌∙◌, arith}
+use Rattle.std.proofs.Common.{◌≡◌, ℕ, zero, suc, ◌+◌, ◌^◌, ◌≤◌, ◌<◌, ◌==◌, Bool, true, false, not, ◌&&◌, if◌then◌else◌, List, [], ◌∷◌, ◌++◌, length, map, append_assoc, length-append, Some, None, Result, Ok, Err, refl, sym, ap, ◌∙◌, arith, inr}
 use Rattle.std.specs.Prelude.{flat_map, nat_le, codes, unsigned_abs}
 use Rattle.std.specs.List.{list_all}
 use Rattle.std.specs.Fmt.{decimal}
@@ -15,50 +15,50 @@ use Rattle.proof_text.specs.declared.fault.ProofFault.{ProofFault}
 use Rattle.proof_text.specs.declared.fault.ProofFault.TheVariants.{Count, Shape}
 use Rattle.proof_text.specs.declared.draft.Draft.{Draft}
 use Rattle.proof_text.specs.declared.draft.Stage.TheVariants.{Format, Variables, Clauses, Body}
-use Rattle.proof_text.specs.Words.{words, place_of, number_of, unsigned}
+use Rattle.knox_text.specs.Tokens.{tokens, place_of}
+use Rattle.knox_text.specs.Numbers.{at_most}
+use Rattle.proof_text.specs.Numbers.{number_of, unsigned}
 use Rattle.proof_text.specs.Results.{and_then}
-use Rattle.proof_text.specs.Dimacs.{is_none, is_full, at_most, size_of, with_vars, with_count, with_clause_word, with_word, with_words, with_line, with_lines, finished, cnf, cnf_of, nothing, at_stage}
+use Rattle.proof_text.specs.Dimacs.{is_none, is_full, size_of, with_vars, with_count, with_clause_token, with_token, with_tokens, with_line, with_lines, finished, cnf, cnf_of, nothing, at_stage}
 use Rattle.proof_text.specs.Printing.{sign_shown, natural_shown, literal_shown, clause_shown, header_shown, cnf_shown}
-use Rattle.proof_text.proofs.Digits.{in_word, in_line, no_minus, decimal-natural, number_of-decimal, number_of-minus, first-word, last-word, first-line, not-true, not-eqb}
+use Rattle.knox_text.proofs.Fronts.{in_token, in_line, first-token, last-token, first-line}
+use Rattle.knox_text.proofs.Decimals.{decimal-natural, not-eqb}
+use Rattle.proof_text.proofs.Digits.{number_of-decimal, number_of-minus, not-first}
 
--- ---- the word of a literal
+-- ---- the token of a literal
 
-abbrev pub lit_word : Literal → List ℕ
-lit_word l = sign_shown (number_is l) ++ decimal (unsigned_abs (number_is l))
+abbrev pub lit_token : Literal → List ℕ
+lit_token l = sign_shown (number_is l) ++ decimal (unsigned_abs (number_is l))
 
-record IsLitWord (l : Literal) : Type 0 where
-  some : 0 < length (lit_word l)
-  in_words : list_all in_word (lit_word l) ≡ true
-  in_lines : list_all in_line (lit_word l) ≡ true
-  start : begins_with 99 (lit_word l) ≡ false
-  number : number_of (lit_word l) ≡ Some (record { negative = not l.positive; magnitude = l.var })
+record IsLitToken (l : Literal) : Type 0 where
+  some : 0 < length (lit_token l)
+  in_tokens : list_all in_token (lit_token l) ≡ true
+  in_lines : list_all in_line (lit_token l) ≡ true
+  start : begins_with 99 (lit_token l) ≡ false
+  number : number_of (lit_token l) ≡ Some (record { negative = not l.positive; magnitude = l.var })
 
-pub start-of : (bytes : List ℕ) → no_minus bytes ≡ true → begins_with 99 bytes ≡ false
-start-of [] f = refl
-start-of (b ∷ bytes) f = not-true (b == 99) (and_parts (not (b == 45)) (not (b == 99)) f).1
-
-lit-word-is : (v : ℕ) (p : Bool) → 1 ≤ v → v < 2 ^ 64 → IsLitWord (literal v p)
-lit-word-is zero p low high = absurd (omega arith)
-lit-word-is (suc k) true low high =
+lit-token-is : (v : ℕ) (p : Bool) → 1 ≤ v → v < 2 ^ 64 → IsLitToken (literal v p)
+lit-token-is zero p low high = absurd (omega arith)
+lit-token-is (suc k) true low high =
     let d = decimal-natural (suc k) high in
-    record { some = d.some; in_words = d.in_words; in_lines = d.in_lines; start = start-of (decimal (suc k)) d.first; number = number_of-decimal (suc k) high }
-lit-word-is (suc k) false low high =
+    record { some = d.some; in_tokens = d.in_tokens; in_lines = d.in_lines; start = not-first 99 (decimal (suc k)) (inr (omega arith)) d.all; number = number_of-decimal (suc k) high }
+lit-token-is (suc k) false low high =
     let d = decimal-natural (suc k) high in
-    record { some = omega arith; in_words = d.in_words; in_lines = d.in_lines; start = refl; number = number_of-minus (suc k) high }
+    record { some = omega arith; in_tokens = d.in_tokens; in_lines = d.in_lines; start = refl; number = number_of-minus (suc k) high }
 
-shown-word : (l : Literal) → literal_shown l ≡ lit_word l ++ 32 ∷ []
-shown-word l = sym (append_assoc (sign_shown (number_is l)) (decimal (unsigned_abs (number_is l))) (32 ∷ []))
+shown-token : (l : Literal) → literal_shown l ≡ lit_token l ++ 32 ∷ []
+shown-token l = sym (append_assoc (sign_shown (number_is l)) (decimal (unsigned_abs (number_is l))) (32 ∷ []))
 
 -- ---- the line of a clause
 
 abbrev pub clause_line : List Literal → List ℕ
 clause_line c = flat_map literal_shown c ++ 48 ∷ []
 
-cut-clause : (l : Literal) (ls : List Literal) → clause_line (l ∷ ls) ≡ lit_word l ++ 32 ∷ clause_line ls
+cut-clause : (l : Literal) (ls : List Literal) → clause_line (l ∷ ls) ≡ lit_token l ++ 32 ∷ clause_line ls
 cut-clause l ls =
-    ap (λ w. (w ++ flat_map literal_shown ls) ++ 48 ∷ []) (shown-word l)
-    ∙ ap (λ w. w ++ 48 ∷ []) (append_assoc (lit_word l) (32 ∷ []) (flat_map literal_shown ls))
-    ∙ append_assoc (lit_word l) (32 ∷ flat_map literal_shown ls) (48 ∷ [])
+    ap (λ w. (w ++ flat_map literal_shown ls) ++ 48 ∷ []) (shown-token l)
+    ∙ ap (λ w. w ++ 48 ∷ []) (append_assoc (lit_token l) (32 ∷ []) (flat_map literal_shown ls))
+    ∙ append_assoc (lit_token l) (32 ∷ flat_map literal_shown ls) (48 ∷ [])
 
 clause-shown : (c : List Literal) (rest : List ℕ) → clause_shown c ++ rest ≡ clause_line c ++ 10 ∷ rest
 clause-shown c rest =
@@ -68,12 +68,12 @@ clause-shown c rest =
 abbrev pub good : ℕ → Literal → Bool
 good vars l = nat_le 1 l.var && nat_le l.var vars
 
-good-word : (vars : ℕ) (l : Literal) → vars < 2 ^ 64 → good vars l ≡ true → IsLitWord l
-good-word vars l small g =
+good-token : (vars : ℕ) (l : Literal) → vars < 2 ^ 64 → good vars l ≡ true → IsLitToken l
+good-token vars l small g =
     let p = and_parts (nat_le 1 l.var) (nat_le l.var vars) g in
     let low = leb-true 1 l.var p.0 in
     let high = leb-true l.var vars p.1 in
-    lit-word-is l.var l.positive low (omega (arith, high, small))
+    lit-token-is l.var l.positive low (omega (arith, high, small))
 
 pub starts-on : (w rest : List ℕ) → 0 < length w → begins_with 99 w ≡ false → begins_with 99 (w ++ rest) ≡ false
 starts-on [] rest some e = absurd (omega arith)
@@ -82,17 +82,17 @@ starts-on (b ∷ w) rest some e = e
 clause-starts : (vars : ℕ) (c : List Literal) → vars < 2 ^ 64 → list_all (good vars) c ≡ true → begins_with 99 (clause_line c) ≡ false
 clause-starts vars [] small g = refl
 clause-starts vars (l ∷ ls) small g =
-    let w = good-word vars l small (and_parts (good vars l) (list_all (good vars) ls) g).0 in
-    ap (begins_with 99) (cut-clause l ls) ∙ starts-on (lit_word l) (32 ∷ clause_line ls) w.some w.start
+    let w = good-token vars l small (and_parts (good vars l) (list_all (good vars) ls) g).0 in
+    ap (begins_with 99) (cut-clause l ls) ∙ starts-on (lit_token l) (32 ∷ clause_line ls) w.some w.start
 
 clause-in_line : (vars : ℕ) (c : List Literal) → vars < 2 ^ 64 → list_all (good vars) c ≡ true → list_all in_line (clause_line c) ≡ true
 clause-in_line vars [] small g = refl
 clause-in_line vars (l ∷ ls) small g =
     let p = and_parts (good vars l) (list_all (good vars) ls) g in
-    let w = good-word vars l small p.0 in
+    let w = good-token vars l small p.0 in
     ap (list_all in_line) (cut-clause l ls)
-    ∙ list_all-append in_line (lit_word l) (32 ∷ clause_line ls)
-    ∙ and_from (list_all in_line (lit_word l)) (list_all in_line (32 ∷ clause_line ls)) w.in_lines (clause-in_line vars ls small p.1)
+    ∙ list_all-append in_line (lit_token l) (32 ∷ clause_line ls)
+    ∙ and_from (list_all in_line (lit_token l)) (list_all in_line (32 ∷ clause_line ls)) w.in_lines (clause-in_line vars ls small p.1)
 
 -- ---- reading the line of a clause
 
@@ -116,17 +116,17 @@ picked a b c t e f g h x ea eb ec et = rw (ea, eb, ec, et) refl
 zero-not : (v : ℕ) → 1 ≤ v → (v == 0) ≡ false
 zero-not v low = not-eqb v 0 (λ e. omega arith)
 
-lit-taken : (vars count : ℕ) (cs : List (List Literal)) (before : List Literal) (l : Literal) (at : Place) → vars < 2 ^ 64 → good vars l ≡ true → is_full (body vars count cs before) ≡ false → with_word (body vars count cs before) at (lit_word l) ≡ Ok (body vars count cs (before ++ l ∷ []))
+lit-taken : (vars count : ℕ) (cs : List (List Literal)) (before : List Literal) (l : Literal) (at : Place) → vars < 2 ^ 64 → good vars l ≡ true → is_full (body vars count cs before) ≡ false → with_token (body vars count cs before) at (lit_token l) ≡ Ok (body vars count cs (before ++ l ∷ []))
 lit-taken vars count cs before l at small g full =
     let p = and_parts (nat_le 1 l.var) (nat_le l.var vars) g in
-    let w = good-word vars l small g in
+    let w = good-token vars l small g in
     let zero_no : (l.var == 0) ≡ false = zero-not l.var (leb-true 1 l.var p.0) in
     let d = body vars count cs before in
-    ap (with_clause_word d at (lit_word l)) w.number
+    ap (with_clause_token d at (lit_token l)) w.number
     ∙ picked (not l.positive && (l.var == 0)) (is_full d) (l.var == 0) (nat_le l.var vars) _ _ _ _ (Ok (body vars count cs (before ++ literal l.var (not (not l.positive)) ∷ []))) (ap (λ b. not l.positive && b) zero_no ∙ and-false (not l.positive)) full zero_no p.1
     ∙ ap (λ s. Ok (body vars count cs (before ++ literal l.var s ∷ []))) (not-not l.positive)
 
-zero-taken : (vars count : ℕ) (cs : List (List Literal)) (before : List Literal) (at : Place) → is_full (body vars count cs before) ≡ false → with_word (body vars count cs before) at (48 ∷ []) ≡ Ok (body vars count (cs ++ before ∷ []) [])
+zero-taken : (vars count : ℕ) (cs : List (List Literal)) (before : List Literal) (at : Place) → is_full (body vars count cs before) ≡ false → with_token (body vars count cs before) at (48 ∷ []) ≡ Ok (body vars count (cs ++ before ∷ []) [])
 zero-taken vars count cs before at full = rw full refl
 
 none-push : (xs : List Literal) (x : Literal) → is_none (xs ++ x ∷ []) ≡ false
@@ -136,18 +136,18 @@ none-push (y ∷ xs) x = refl
 open-full : (vars count : ℕ) (cs : List (List Literal)) (xs : List Literal) (x : Literal) → is_full (body vars count cs (xs ++ x ∷ [])) ≡ false
 open-full vars count cs xs x = ap (λ b. b && (length cs == count)) (none-push xs x)
 
-clause-taken : (vars count : ℕ) (cs : List (List Literal)) (before : List Literal) (n width : ℕ) (ls : List Literal) → vars < 2 ^ 64 → list_all (good vars) ls ≡ true → is_full (body vars count cs before) ≡ false → with_words (body vars count cs before) n width (words (clause_line ls)) ≡ Ok (body vars count (cs ++ (before ++ ls) ∷ []) [])
+clause-taken : (vars count : ℕ) (cs : List (List Literal)) (before : List Literal) (n width : ℕ) (ls : List Literal) → vars < 2 ^ 64 → list_all (good vars) ls ≡ true → is_full (body vars count cs before) ≡ false → with_tokens (body vars count cs before) n width (tokens (clause_line ls)) ≡ Ok (body vars count (cs ++ (before ++ ls) ∷ []) [])
 clause-taken vars count cs before n width [] small g full =
-    ap (λ (x : Result Draft ProofFault). and_then x (λ e. with_words e n width [])) (zero-taken vars count cs before (place_of n width 1) full)
+    ap (λ (x : Result Draft ProofFault). and_then x (λ e. with_tokens e n width [])) (zero-taken vars count cs before (place_of n width 1) full)
     ∙ ap (λ o. Ok (body vars count (cs ++ o ∷ []) [])) (sym (append-nil before))
 clause-taken vars count cs before n width (l ∷ ls) small g full =
     let p = and_parts (good vars l) (list_all (good vars) ls) g in
-    let w = good-word vars l small p.0 in
+    let w = good-token vars l small p.0 in
     let d = body vars count cs before in
     let rest = clause_line ls in
-    ap (λ line. with_words d n width (words line)) (cut-clause l ls)
-    ∙ ap (with_words d n width) (first-word (lit_word l) rest w.some w.in_words)
-    ∙ ap (λ (x : Result Draft ProofFault). and_then x (λ e. with_words e n width (words rest))) (lit-taken vars count cs before l (place_of n width (length (lit_word l ++ 32 ∷ rest))) small p.0 full)
+    ap (λ line. with_tokens d n width (tokens line)) (cut-clause l ls)
+    ∙ ap (with_tokens d n width) (first-token (lit_token l) rest w.some w.in_tokens)
+    ∙ ap (λ (x : Result Draft ProofFault). and_then x (λ e. with_tokens e n width (tokens rest))) (lit-taken vars count cs before l (place_of n width (length (lit_token l ++ 32 ∷ rest))) small p.0 full)
     ∙ clause-taken vars count cs (before ++ l ∷ []) n width ls small p.1 (open-full vars count cs before l)
     ∙ ap (λ o. Ok (body vars count (cs ++ o ∷ []) [])) (append_assoc before (l ∷ []) ls)
 
@@ -161,7 +161,7 @@ clauses-taken vars count cs (c ∷ more) n small g e =
     let line = clause_line c in
     let open_yet : is_full d ≡ false = not-eqb (length cs) count (λ q. omega arith) in
     let taken : with_line d n line ≡ Ok (body vars count (cs ++ c ∷ []) []) =
-    ap (λ (t : Bool). if t then Ok d else with_words d n (length line) (words line)) (clause-starts vars c small p.0)
+    ap (λ (t : Bool). if t then Ok d else with_tokens d n (length line) (tokens line)) (clause-starts vars c small p.0)
     ∙ clause-taken vars count cs [] n (length line) c small p.0 open_yet in
     let len : length (cs ++ c ∷ []) ≡ length cs + 1 = length-append cs (c ∷ []) in
     ap (λ (x : Result Draft ProofFault). and_then x (λ z. with_lines z (n + 1) (map clause_line more))) taken
@@ -207,22 +207,22 @@ at_vars = record { stage = Variables; vars = 0; count = 0; clauses = []; open_cl
 abbrev pub at_count : ℕ → Draft
 at_count vars = record { stage = Clauses; vars = vars; count = 0; clauses = []; open_clause = [] }
 
-numbers-taken : (vars count n width : ℕ) → vars ≤ 10000000 → count ≤ 10000000 → with_words at_vars n width (words (natural_shown vars ++ decimal count)) ≡ Ok (body vars count [] [])
+numbers-taken : (vars count n width : ℕ) → vars ≤ 10000000 → count ≤ 10000000 → with_tokens at_vars n width (tokens (natural_shown vars ++ decimal count)) ≡ Ok (body vars count [] [])
 numbers-taken vars count n width v c =
     let dv = decimal-natural vars (omega arith) in
     let dc = decimal-natural count (omega arith) in
-    ap (λ l. with_words at_vars n width (words l)) (sizes vars count)
-    ∙ ap (with_words at_vars n width) (first-word (decimal vars) (decimal count) dv.some dv.in_words)
-    ∙ ap (λ o. and_then (with_vars at_vars (place_of n width (length (decimal vars ++ 32 ∷ decimal count))) o) (λ e. with_words e n width (words (decimal count)))) (size-read vars v)
-    ∙ ap (with_words (at_count vars) n width) (last-word (decimal count) dc.some dc.in_words)
-    ∙ ap (λ o. and_then (with_count (at_count vars) (place_of n width (length (decimal count))) o) (λ e. with_words e n width [])) (size-read count c)
+    ap (λ l. with_tokens at_vars n width (tokens l)) (sizes vars count)
+    ∙ ap (with_tokens at_vars n width) (first-token (decimal vars) (decimal count) dv.some dv.in_tokens)
+    ∙ ap (λ o. and_then (with_vars at_vars (place_of n width (length (decimal vars ++ 32 ∷ decimal count))) o) (λ e. with_tokens e n width (tokens (decimal count)))) (size-read vars v)
+    ∙ ap (with_tokens (at_count vars) n width) (last-token (decimal count) dc.some dc.in_tokens)
+    ∙ ap (λ o. and_then (with_count (at_count vars) (place_of n width (length (decimal count))) o) (λ e. with_tokens e n width [])) (size-read count c)
 
 header-taken : (vars count n : ℕ) → vars ≤ 10000000 → count ≤ 10000000 → with_line nothing n (header_line vars count) ≡ Ok (body vars count [] [])
 header-taken vars count n v c =
     let line = header_line vars count in
     let rest = natural_shown vars ++ decimal count in
-    ap (with_words nothing n (length line)) (first-word (112 ∷ []) (99 ∷ 110 ∷ 102 ∷ 32 ∷ rest) (omega arith) refl)
-    ∙ ap (λ ws. with_words (at_stage nothing Format) n (length line) ws) (first-word (99 ∷ 110 ∷ 102 ∷ []) rest (omega arith) refl)
+    ap (with_tokens nothing n (length line)) (first-token (112 ∷ []) (99 ∷ 110 ∷ 102 ∷ 32 ∷ rest) (omega arith) refl)
+    ∙ ap (λ ws. with_tokens (at_stage nothing Format) n (length line) ws) (first-token (99 ∷ 110 ∷ 102 ∷ []) rest (omega arith) refl)
     ∙ numbers-taken vars count n (length line) v c
 
 -- ---- the whole text

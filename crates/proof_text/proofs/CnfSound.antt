@@ -15,9 +15,11 @@ use Rattle.proof_text.specs.declared.number.Number.{Number}
 use Rattle.proof_text.specs.declared.draft.Draft.{Draft}
 use Rattle.proof_text.specs.declared.draft.Stage.{Stage}
 use Rattle.proof_text.specs.declared.draft.Stage.TheVariants.{Start, Format, Variables, Clauses, Body}
-use Rattle.proof_text.specs.Words.{Word, words, place_of, number_of, unsigned}
+use Rattle.knox_text.specs.Tokens.{Token, tokens, place_of}
+use Rattle.knox_text.specs.Numbers.{at_most}
+use Rattle.proof_text.specs.Numbers.{number_of, unsigned}
 use Rattle.proof_text.specs.Results.{and_then}
-use Rattle.proof_text.specs.Dimacs.{is_none, is_full, at_most, size_of, with_vars, with_count, with_number, with_clause_word, with_word, with_word_at, with_words, with_line, with_lines, finished, finished_at, cnf, cnf_of, nothing, at_stage, is_p, is_cnf}
+use Rattle.proof_text.specs.Dimacs.{is_none, is_full, size_of, with_vars, with_count, with_number, with_clause_token, with_token, with_token_at, with_tokens, with_line, with_lines, finished, finished_at, cnf, cnf_of, nothing, at_stage, is_p, is_cnf}
 use Rattle.proof_text.proofs.CnfAgain.{good, printed-read}
 use Rattle.proof_text.specs.Printing.{cnf_shown}
 
@@ -58,7 +60,7 @@ limited limit (Some k) n h =
     let p = limited-some (nat_le k limit) k n h in
     subst (λ m. m ≤ limit) p.1 (leb-true k limit p.0)
 
--- ---- one word
+-- ---- one token
 
 empty-of : (d : Draft) → Sound d → (IsBody d.stage → ⊥) → IsEmpty d
 empty-of d s out = elim (s.before) [
@@ -116,34 +118,34 @@ sound-number d at n e s b h = elim (inverted (n.negative && (n.magnitude == 0)) 
   })
 ]
 
-sound-clause_word : (d : Draft) (at : Place) (w : List ℕ) (o : Option Number) (e : Draft) → Sound d → IsBody d.stage → with_clause_word d at w o ≡ Ok e → Sound e
-sound-clause_word d at w None e s b h = cc
-sound-clause_word d at w (Some n) e s b h = sound-number d at n e s b h
+sound-clause_token : (d : Draft) (at : Place) (w : List ℕ) (o : Option Number) (e : Draft) → Sound d → IsBody d.stage → with_clause_token d at w o ≡ Ok e → Sound e
+sound-clause_token d at w None e s b h = cc
+sound-clause_token d at w (Some n) e s b h = sound-number d at n e s b h
 
-sound-word_at : (d : Draft) (st : Stage) (at : Place) (w : List ℕ) (e : Draft) → Sound d → d.stage ≡ st → with_word_at d st at w ≡ Ok e → Sound e
-sound-word_at d Start at w e s q h = subst Sound (if-ok (is_p w) (at_stage d Format) e (Header at) h) (restaged d Format s (empty-of d s (λ b. subst IsBody q b)))
-sound-word_at d Format at w e s q h = subst Sound (if-ok (is_cnf w) (at_stage d Variables) e (Header at) h) (restaged d Variables s (empty-of d s (λ b. subst IsBody q b)))
-sound-word_at d Variables at w e s q h = sound-vars d at (size_of w) e s (empty-of d s (λ b. subst IsBody q b)) (λ n. limited 10000000 (unsigned (number_of w)) n) h
-sound-word_at d Clauses at w e s q h = sound-count d at (size_of w) e s (λ n. limited 10000000 (unsigned (number_of w)) n) h
-sound-word_at d Body at w e s q h = sound-clause_word d at w (number_of w) e s (subst IsBody (sym q) tt) h
+sound-token_at : (d : Draft) (st : Stage) (at : Place) (w : List ℕ) (e : Draft) → Sound d → d.stage ≡ st → with_token_at d st at w ≡ Ok e → Sound e
+sound-token_at d Start at w e s q h = subst Sound (if-ok (is_p w) (at_stage d Format) e (Header at) h) (restaged d Format s (empty-of d s (λ b. subst IsBody q b)))
+sound-token_at d Format at w e s q h = subst Sound (if-ok (is_cnf w) (at_stage d Variables) e (Header at) h) (restaged d Variables s (empty-of d s (λ b. subst IsBody q b)))
+sound-token_at d Variables at w e s q h = sound-vars d at (size_of w) e s (empty-of d s (λ b. subst IsBody q b)) (λ n. limited 10000000 (unsigned (number_of w)) n) h
+sound-token_at d Clauses at w e s q h = sound-count d at (size_of w) e s (λ n. limited 10000000 (unsigned (number_of w)) n) h
+sound-token_at d Body at w e s q h = sound-clause_token d at w (number_of w) e s (subst IsBody (sym q) tt) h
 
--- ---- words and lines
+-- ---- tokens and lines
 
-sound-words : (ws : List Word) (d : Draft) (n width : ℕ) (e : Draft) → Sound d → with_words d n width ws ≡ Ok e → Sound e
-sound-words [] d n width e s h = let q : d ≡ e = cc in subst Sound q s
-sound-words (w ∷ ws) d n width e s h =
-    let p = bind-ok (with_word d (place_of n width w.left) w.bytes) (λ z. with_words z n width ws) e h in
-    sound-words ws p.0 n width e (sound-word_at d d.stage (place_of n width w.left) w.bytes p.0 s refl p.1) p.2
+sound-tokens : (ws : List Token) (d : Draft) (n width : ℕ) (e : Draft) → Sound d → with_tokens d n width ws ≡ Ok e → Sound e
+sound-tokens [] d n width e s h = let q : d ≡ e = cc in subst Sound q s
+sound-tokens (w ∷ ws) d n width e s h =
+    let p = bind-ok (with_token d (place_of n width w.left) w.bytes) (λ z. with_tokens z n width ws) e h in
+    sound-tokens ws p.0 n width e (sound-token_at d d.stage (place_of n width w.left) w.bytes p.0 s refl p.1) p.2
 
-sound-line_if : (b : Bool) (d : Draft) (n width : ℕ) (ws : List Word) (e : Draft) → Sound d → (if b then Ok d else with_words d n width ws) ≡ Ok e → Sound e
+sound-line_if : (b : Bool) (d : Draft) (n width : ℕ) (ws : List Token) (e : Draft) → Sound d → (if b then Ok d else with_tokens d n width ws) ≡ Ok e → Sound e
 sound-line_if true d n width ws e s h = let q : d ≡ e = cc in subst Sound q s
-sound-line_if false d n width ws e s h = sound-words ws d n width e s h
+sound-line_if false d n width ws e s h = sound-tokens ws d n width e s h
 
 sound-lines : (ls : List (List ℕ)) (d : Draft) (n : ℕ) (e : Draft) → Sound d → with_lines d n ls ≡ Ok e → Sound e
 sound-lines [] d n e s h = let q : d ≡ e = cc in subst Sound q s
 sound-lines (l ∷ ls) d n e s h =
     let p = bind-ok (with_line d n l) (λ z. with_lines z (n + 1) ls) e h in
-    sound-lines ls p.0 (n + 1) e (sound-line_if (is_none d.open_clause && begins_with 99 l) d n (length l) (words l) p.0 s p.1) p.2
+    sound-lines ls p.0 (n + 1) e (sound-line_if (is_none d.open_clause && begins_with 99 l) d n (length l) (tokens l) p.0 s p.1) p.2
 
 -- ---- the end
 

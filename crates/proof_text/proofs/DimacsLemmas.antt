@@ -1,19 +1,11 @@
--- One word after another, and one line after another.
-use Rattle.std.proofs.Common.{◌≡◌, ℕ, ◌+◌, Bool, true, false, List, [], ◌∷◌, refl, sym, ◌∙◌, ap, subst, inl, inr, Option, Result, Ok, Err}
-use Rattle.std.specs.Prelude.{slice_get, is_some}
-use Rattle.knox_text.specs.declared.place.Place.{Place}
-use Rattle.knox_text.specs.Places.{behind}
+-- One token after another, and one line after another.
+use Rattle.std.proofs.Common.{◌≡◌, ℕ, ◌+◌, List, [], ◌∷◌, refl, sym, ◌∙◌, ap, subst, inl, inr, Result, Ok, Err}
 use Rattle.knox_text.specs.Lines.{lines}
 use Rattle.proof_text.specs.declared.fault.ProofFault.{ProofFault}
 use Rattle.proof_text.specs.declared.draft.Draft.{Draft}
-use Rattle.proof_text.specs.Words.{Word, word, words, place_of}
+use Rattle.knox_text.specs.Tokens.{Token, token, tokens, place_of}
 use Rattle.proof_text.specs.Results.{and_then}
-use Rattle.proof_text.specs.Dimacs.{Takes, Gives, with_word, with_words, with_line, with_lines}
-
--- at the end of a text its place is that of its end
-pub at-end : (at : Place) (rest : List ℕ) (o : Option ℕ) (b : Bool) → o ≡ slice_get rest 0 → b ≡ is_some o → b ≡ false → at ≡ behind at rest
-at-end at [] o b e i f = refl
-at-end at (x ∷ rest) o b e i f = let k : b ≡ true = i ∙ ap is_some e in cc
+use Rattle.proof_text.specs.Dimacs.{Takes, Gives, with_token, with_tokens, with_line, with_lines}
 
 Gives-Ok : (new : Draft) (want : Result Draft ProofFault) → Gives (Ok tt) new want → want ≡ Ok new
 Gives-Ok new (Ok d) g = ap (λ (x : Draft). Ok x) (sym g.1)
@@ -35,19 +27,19 @@ Takes-Err r f old new want rest (inr g) e = inr (Gives-Err f old new want rest (
 Takes-here : (d : Draft) → Takes (Ok tt) d (Ok d)
 Takes-here d = inr (refl, refl)
 
--- ---- the words of a line
+-- ---- the tokens of a line
 
-pub words-more : (d e : Draft) (n width left : ℕ) (bytes line rest : List ℕ) (r : Result (Unit {0}) ProofFault) → words line ≡ word left bytes ∷ words rest → Takes r e (with_word d (place_of n width left) bytes) → r ≡ Ok tt → with_words d n width (words line) ≡ with_words e n width (words rest)
-words-more d e n width left bytes line rest r w t k =
-    ap (with_words d n width) w ∙ ap (λ (x : Result Draft ProofFault). and_then x (λ z. with_words z n width (words rest))) (Takes-Ok r e (with_word d (place_of n width left) bytes) t k)
+pub tokens-more : (d e : Draft) (n width left : ℕ) (bytes line rest : List ℕ) (r : Result (Unit {0}) ProofFault) → tokens line ≡ token left bytes ∷ tokens rest → Takes r e (with_token d (place_of n width left) bytes) → r ≡ Ok tt → with_tokens d n width (tokens line) ≡ with_tokens e n width (tokens rest)
+tokens-more d e n width left bytes line rest r w t k =
+    ap (with_tokens d n width) w ∙ ap (λ (x : Result Draft ProofFault). and_then x (λ z. with_tokens z n width (tokens rest))) (Takes-Ok r e (with_token d (place_of n width left) bytes) t k)
 
-pub words-refused : (d e : Draft) (n width left : ℕ) (bytes line rest : List ℕ) (r : Result (Unit {0}) ProofFault) (f : ProofFault) → words line ≡ word left bytes ∷ words rest → Takes r e (with_word d (place_of n width left) bytes) → r ≡ Err f → Takes (Err f) e (with_words d n width (words line))
-words-refused d e n width left bytes line rest r f w t k =
-    subst (λ (ws : List Word). Takes (Err f) e (with_words d n width ws)) (sym w) (Takes-Err r f e e (with_word d (place_of n width left) bytes) (λ z. with_words z n width (words rest)) t k)
+pub tokens-refused : (d e : Draft) (n width left : ℕ) (bytes line rest : List ℕ) (r : Result (Unit {0}) ProofFault) (f : ProofFault) → tokens line ≡ token left bytes ∷ tokens rest → Takes r e (with_token d (place_of n width left) bytes) → r ≡ Err f → Takes (Err f) e (with_tokens d n width (tokens line))
+tokens-refused d e n width left bytes line rest r f w t k =
+    subst (λ (ws : List Token). Takes (Err f) e (with_tokens d n width ws)) (sym w) (Takes-Err r f e e (with_token d (place_of n width left) bytes) (λ z. with_tokens z n width (tokens rest)) t k)
 
-pub words-end : (d : Draft) (n width : ℕ) (ws : List Word) → ws ≡ [] → Takes (Ok tt) d (with_words d n width ws)
-words-end d n width [] e = Takes-here d
-words-end d n width (w ∷ ws) e = cc
+pub tokens-end : (d : Draft) (n width : ℕ) (ws : List Token) → ws ≡ [] → Takes (Ok tt) d (with_tokens d n width ws)
+tokens-end d n width [] e = Takes-here d
+tokens-end d n width (w ∷ ws) e = cc
 
 -- ---- the lines of a text
 

@@ -1,4 +1,3 @@
-pub mod WordLemmas
 pub mod DimacsLemmas
 pub mod LratLemmas
 pub mod Digits

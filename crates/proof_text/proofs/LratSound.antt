@@ -12,7 +12,8 @@ use Rattle.proof_text.specs.declared.fault.ProofFault.TheVariants.{Shape}
 use Rattle.proof_text.specs.declared.number.Number.{Number}
 use Rattle.proof_text.specs.declared.proof_line.ProofLine.{ProofLine}
 use Rattle.proof_text.specs.declared.proof_line.ProofLine.TheVariants.{Add, Delete}
-use Rattle.proof_text.specs.Words.{Word, words, place_of, number_of, unsigned}
+use Rattle.knox_text.specs.Tokens.{Token, tokens, place_of}
+use Rattle.proof_text.specs.Numbers.{number_of, unsigned}
 use Rattle.proof_text.specs.Results.{and_then}
 use Rattle.proof_text.specs.Lrat.{literal_number, literal_at, hint_number, hint_at, id_number, id_at, number_then, numbers, ended, addition, deletion, is_d, addition_if, after_id, with_id, entry, line_of, lines_of, lrat_of}
 use Rattle.proof_text.specs.Printing.{lrat_shown, renumbered}
@@ -73,11 +74,11 @@ id-fit (Some n) i h =
 
 -- ---- lists of numbers
 
-numbers-fit : {A : Type 0} (read : List ℕ → Option (Option A)) (fit : A → Bool) → ((w : List ℕ) (x : A) → read w ≡ Some (Some x) → fit x ≡ true) → (n width : ℕ) (ws : List Word) (p : List A × List Word) → numbers read n width ws ≡ Ok p → list_all fit p.0 ≡ true
+numbers-fit : {A : Type 0} (read : List ℕ → Option (Option A)) (fit : A → Bool) → ((w : List ℕ) (x : A) → read w ≡ Some (Some x) → fit x ≡ true) → (n width : ℕ) (ws : List Token) (p : List A × List Token) → numbers read n width ws ≡ Ok p → list_all fit p.0 ≡ true
 numbers-fit read fit k n width [] p h = cc
 numbers-fit read fit k n width (w ∷ ws) p h = number-fit (read w.bytes) (place_of n width w.left) ws (numbers read n width ws) p fit (k w.bytes) (λ q. numbers-fit read fit k n width ws q) h
   where
-    number-fit : {A : Type 0} (o : Option (Option A)) (at : Place) (ws : List Word) (more : Result (List A × List Word) ProofFault) (p : List A × List Word) (fit : A → Bool) → ((x : A) → o ≡ Some (Some x) → fit x ≡ true) → ((q : List A × List Word) → more ≡ Ok q → list_all fit q.0 ≡ true) → number_then o at ws more ≡ Ok p → list_all fit p.0 ≡ true
+    number-fit : {A : Type 0} (o : Option (Option A)) (at : Place) (ws : List Token) (more : Result (List A × List Token) ProofFault) (p : List A × List Token) (fit : A → Bool) → ((x : A) → o ≡ Some (Some x) → fit x ≡ true) → ((q : List A × List Token) → more ≡ Ok q → list_all fit q.0 ≡ true) → number_then o at ws more ≡ Ok p → list_all fit p.0 ≡ true
     number-fit None at ws more p fit k g h = cc
     number-fit (Some None) at ws more p fit k g h = let e : ([], ws) ≡ p = cc in subst (λ q. list_all fit q.0 ≡ true) e refl
     number-fit (Some (Some x)) at ws more p fit k g h =
@@ -92,11 +93,11 @@ abbrev fit_entry : Option ProofLine → Bool
 fit_entry None = true
 fit_entry (Some l) = fit_line l
 
-ended-fit : (n width : ℕ) (ws : List Word) (l : ProofLine) (o : Option ProofLine) → fit_line l ≡ true → ended n width ws l ≡ Ok o → fit_entry o ≡ true
+ended-fit : (n width : ℕ) (ws : List Token) (l : ProofLine) (o : Option ProofLine) → fit_line l ≡ true → ended n width ws l ≡ Ok o → fit_entry o ≡ true
 ended-fit n width [] l o f h = let e : Some l ≡ o = cc in subst (λ k. fit_entry k ≡ true) e f
 ended-fit n width (w ∷ ws) l o f h = cc
 
-addition-fit : (n width id : ℕ) (ws : List Word) (o : Option ProofLine) → nat_lt id (2 ^ 64) ≡ true → addition n width id ws ≡ Ok o → fit_entry o ≡ true
+addition-fit : (n width id : ℕ) (ws : List Token) (o : Option ProofLine) → nat_lt id (2 ^ 64) ≡ true → addition n width id ws ≡ Ok o → fit_entry o ≡ true
 addition-fit n width id ws o i h =
     let p = bind-ok (numbers literal_at n width ws) (λ ls. and_then (numbers hint_at n width ls.1) (λ hs. ended n width hs.1 (Add n id ls.0 hs.0))) o h in
     let q = bind-ok (numbers hint_at n width p.0.1) (λ hs. ended n width hs.1 (Add n id p.0.0 hs.0)) o p.2 in
@@ -104,32 +105,32 @@ addition-fit n width id ws o i h =
     let hints = numbers-fit hint_at fit_hint (λ w. hint-fit (number_of w)) n width p.0.1 q.0 q.1 in
     ended-fit n width q.0.1 (Add n id p.0.0 q.0.0) o (and_from (nat_lt id (2 ^ 64)) (list_all fit_literal p.0.0 && list_all fit_hint q.0.0) i (and_from (list_all fit_literal p.0.0) (list_all fit_hint q.0.0) lits hints)) q.2
 
-deletion-fit : (n width : ℕ) (ws : List Word) (o : Option ProofLine) → deletion n width ws ≡ Ok o → fit_entry o ≡ true
+deletion-fit : (n width : ℕ) (ws : List Token) (o : Option ProofLine) → deletion n width ws ≡ Ok o → fit_entry o ≡ true
 deletion-fit n width ws o h =
     let p = bind-ok (numbers id_at n width ws) (λ is. ended n width is.1 (Delete n is.0)) o h in
     ended-fit n width p.0.1 (Delete n p.0.0) o (numbers-fit id_at fit_id (λ w. id-fit (unsigned (number_of w))) n width ws p.0 p.1) p.2
 
-addition_if-fit : (b : Bool) (n width id : ℕ) (at : Place) (ws : List Word) (o : Option ProofLine) → b ≡ nat_lt id (2 ^ 64) → (if b then addition n width id ws else Err (Shape at)) ≡ Ok o → fit_entry o ≡ true
+addition_if-fit : (b : Bool) (n width id : ℕ) (at : Place) (ws : List Token) (o : Option ProofLine) → b ≡ nat_lt id (2 ^ 64) → (if b then addition n width id ws else Err (Shape at)) ≡ Ok o → fit_entry o ≡ true
 addition_if-fit true n width id at ws o e h = addition-fit n width id ws o (sym e) h
 addition_if-fit false n width id at ws o e h = cc
 
-d-fit : (b : Bool) (n width id : ℕ) (at : Place) (w : Word) (ws : List Word) (o : Option ProofLine) → (if b then deletion n width ws else addition_if n width at id (w ∷ ws)) ≡ Ok o → fit_entry o ≡ true
+d-fit : (b : Bool) (n width id : ℕ) (at : Place) (w : Token) (ws : List Token) (o : Option ProofLine) → (if b then deletion n width ws else addition_if n width at id (w ∷ ws)) ≡ Ok o → fit_entry o ≡ true
 d-fit true n width id at w ws o h = deletion-fit n width ws o h
 d-fit false n width id at w ws o h = addition_if-fit (nat_lt id (2 ^ 64)) n width id at (w ∷ ws) o refl h
 
-after_id-fit : (n width : ℕ) (at : Place) (id : ℕ) (ws : List Word) (o : Option ProofLine) → after_id n width at id ws ≡ Ok o → fit_entry o ≡ true
+after_id-fit : (n width : ℕ) (at : Place) (id : ℕ) (ws : List Token) (o : Option ProofLine) → after_id n width at id ws ≡ Ok o → fit_entry o ≡ true
 after_id-fit n width at id [] o h = addition_if-fit (nat_lt id (2 ^ 64)) n width id at [] o refl h
 after_id-fit n width at id (w ∷ ws) o h = d-fit (is_d w.bytes) n width id at w ws o h
 
-with_id-fit : (n width : ℕ) (at : Place) (i : Option ℕ) (ws : List Word) (o : Option ProofLine) → with_id n width at i ws ≡ Ok o → fit_entry o ≡ true
+with_id-fit : (n width : ℕ) (at : Place) (i : Option ℕ) (ws : List Token) (o : Option ProofLine) → with_id n width at i ws ≡ Ok o → fit_entry o ≡ true
 with_id-fit n width at None ws o h = cc
 with_id-fit n width at (Some id) ws o h = after_id-fit n width at id ws o h
 
-entry-fit : (n width : ℕ) (ws : List Word) (o : Option ProofLine) → entry n width ws ≡ Ok o → fit_entry o ≡ true
+entry-fit : (n width : ℕ) (ws : List Token) (o : Option ProofLine) → entry n width ws ≡ Ok o → fit_entry o ≡ true
 entry-fit n width [] o h = let e : None ≡ o = cc in subst (λ k. fit_entry k ≡ true) e refl
 entry-fit n width (w ∷ ws) o h = with_id-fit n width (place_of n width w.left) (unsigned (number_of w.bytes)) ws o h
 
-line-fit : (b : Bool) (n width : ℕ) (ws : List Word) (o : Option ProofLine) → (if b then Ok None else entry n width ws) ≡ Ok o → fit_entry o ≡ true
+line-fit : (b : Bool) (n width : ℕ) (ws : List Token) (o : Option ProofLine) → (if b then Ok None else entry n width ws) ≡ Ok o → fit_entry o ≡ true
 line-fit true n width ws o h = let e : None ≡ o = cc in subst (λ k. fit_entry k ≡ true) e refl
 line-fit false n width ws o h = entry-fit n width ws o h
 
@@ -146,7 +147,7 @@ lines-fit (t ∷ texts) n ls h =
     let e : option_to_list p.0 ++ q.0 ≡ ls = cc in
     subst (λ k. list_all fit_line k ≡ true) e
     (list_all-append fit_line (option_to_list p.0) q.0
-    ∙ and_from (list_all fit_line (option_to_list p.0)) (list_all fit_line q.0) (fit-listed p.0 (line-fit (begins_with 99 t) n (length t) (words t) p.0 p.1)) (lines-fit texts (n + 1) q.0 q.1))
+    ∙ and_from (list_all fit_line (option_to_list p.0)) (list_all fit_line q.0) (fit-listed p.0 (line-fit (begins_with 99 t) n (length t) (tokens t) p.0 p.1)) (lines-fit texts (n + 1) q.0 q.1))
 
 pub printed-again : (text : List ℕ) (ls : List ProofLine) → lrat_of text ≡ Ok ls → lrat_of (lrat_shown ls) ≡ Ok (renumbered 1 ls)
 printed-again text ls m = printed-read ls (lines-fit (lines text) 1 ls m)

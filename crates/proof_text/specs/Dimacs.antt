@@ -1,8 +1,8 @@
--- Which formula a DIMACS text means, or its first fault. The header is four words, `p cnf V C`, over one
+-- Which formula a DIMACS text means, or its first fault. The header is four tokens, `p cnf V C`, over one
 -- line or several. Then come C clauses: numbers with a 0 at the end, over one line or several. A line that
 -- begins with `c` is left out where no clause is open.
--- The project's own: V and C are at most 10,000,000, and a fault stands at the word that breaks a rule, or
--- at the end of the text where a word is missing.
+-- The project's own: V and C are at most 10,000,000, and a fault stands at the token that breaks a rule, or
+-- at the end of the text where a token is missing.
 use Rattle.std.specs.Prelude.{◌≡◌, ◌⊎◌, ℕ, ◌+◌, ◌==◌, ◌&&◌, nat_le, not, Bool, true, false, if◌then◌else◌, cond, List, [], ◌∷◌, ◌++◌, length, Option, Some, None, Result, Ok, Err}
 use Rattle.knox_text.specs.declared.place.Place.{Place}
 use Rattle.knox_text.specs.Lines.{lines, begins_with}
@@ -15,10 +15,12 @@ use Rattle.proof_text.specs.declared.number.Number.{Number}
 use Rattle.proof_text.specs.declared.draft.Stage.{Stage}
 use Rattle.proof_text.specs.declared.draft.Stage.TheVariants.{Start, Format, Variables, Clauses, Body}
 use Rattle.proof_text.specs.declared.draft.Draft.{Draft}
-use Rattle.proof_text.specs.Words.{Word, words, place_of, number_of, unsigned}
+use Rattle.knox_text.specs.Numbers.{at_most}
+use Rattle.knox_text.specs.Tokens.{Token, tokens, place_of}
+use Rattle.proof_text.specs.Numbers.{number_of, unsigned}
 use Rattle.proof_text.specs.Results.{and_then}
 
--- the words `p` and `cnf`
+-- the tokens `p` and `cnf`
 abbrev pub is_p : List ℕ → Bool
 is_p (b ∷ []) = b == 112
 is_p w = false
@@ -44,10 +46,6 @@ abbrev pub expected : Bool → Place → Draft → Result Draft ProofFault
 expected b at d = cond b (Ok d) (Err (Header at))
 
 -- a number of the header: how many variables or clauses there are
-abbrev pub at_most : ℕ → Option ℕ → Option ℕ
-at_most limit None = None
-at_most limit (Some n) = if nat_le n limit then Some n else None
-
 abbrev pub size_of : List ℕ → Option ℕ
 size_of w = at_most 10000000 (unsigned (number_of w))
 
@@ -74,29 +72,29 @@ with_number d at n =
     else if nat_le n.magnitude d.vars then Ok (record d { open_clause = d.open_clause ++ literal n.magnitude (not n.negative) ∷ [] })
     else Err (Variable at)
 
-abbrev pub with_clause_word : Draft → Place → List ℕ → Option Number → Result Draft ProofFault
-with_clause_word d at w None = Err (if is_p w then Header at else Shape at)
-with_clause_word d at w (Some n) = with_number d at n
+abbrev pub with_clause_token : Draft → Place → List ℕ → Option Number → Result Draft ProofFault
+with_clause_token d at w None = Err (if is_p w then Header at else Shape at)
+with_clause_token d at w (Some n) = with_number d at n
 
--- ---- words and lines
+-- ---- tokens and lines
 
-abbrev pub with_word_at : Draft → Stage → Place → List ℕ → Result Draft ProofFault
-with_word_at d Start at w = expected (is_p w) at (at_stage d Format)
-with_word_at d Format at w = expected (is_cnf w) at (at_stage d Variables)
-with_word_at d Variables at w = with_vars d at (size_of w)
-with_word_at d Clauses at w = with_count d at (size_of w)
-with_word_at d Body at w = with_clause_word d at w (number_of w)
+abbrev pub with_token_at : Draft → Stage → Place → List ℕ → Result Draft ProofFault
+with_token_at d Start at w = expected (is_p w) at (at_stage d Format)
+with_token_at d Format at w = expected (is_cnf w) at (at_stage d Variables)
+with_token_at d Variables at w = with_vars d at (size_of w)
+with_token_at d Clauses at w = with_count d at (size_of w)
+with_token_at d Body at w = with_clause_token d at w (number_of w)
 
-abbrev pub with_word : Draft → Place → List ℕ → Result Draft ProofFault
-with_word d at w = with_word_at d d.stage at w
+abbrev pub with_token : Draft → Place → List ℕ → Result Draft ProofFault
+with_token d at w = with_token_at d d.stage at w
 
--- the words of a line with a number and a width
-abbrev pub with_words : Draft → ℕ → ℕ → List Word → Result Draft ProofFault
-with_words d n width [] = Ok d
-with_words d n width (w ∷ ws) = and_then (with_word d (place_of n width w.left) w.bytes) (λ e. with_words e n width ws)
+-- the tokens of a line with a number and a width
+abbrev pub with_tokens : Draft → ℕ → ℕ → List Token → Result Draft ProofFault
+with_tokens d n width [] = Ok d
+with_tokens d n width (w ∷ ws) = and_then (with_token d (place_of n width w.left) w.bytes) (λ e. with_tokens e n width ws)
 
 abbrev pub with_line : Draft → ℕ → List ℕ → Result Draft ProofFault
-with_line d n l = if is_none d.open_clause && begins_with 99 l then Ok d else with_words d n (length l) (words l)
+with_line d n l = if is_none d.open_clause && begins_with 99 l then Ok d else with_tokens d n (length l) (tokens l)
 
 -- lines, of which the first has a number
 abbrev pub with_lines : Draft → ℕ → List (List ℕ) → Result Draft ProofFault
@@ -121,7 +119,7 @@ finished d end = finished_at d d.stage end
 abbrev pub cnf_of : List ℕ → Result Cnf ProofFault
 cnf_of text = and_then (with_lines nothing 1 (lines text)) (λ d. finished d (end_of (start_of text)))
 
--- what taking words answers, and the draft then, want of memory apart
+-- what taking tokens answers, and the draft then, want of memory apart
 abbrev pub Gives : Result (Unit {0}) ProofFault → Draft → Result Draft ProofFault → Type 0
 Gives r new (Ok d) = (r ≡ Ok tt) × (new ≡ d)
 Gives r new (Err f) = r ≡ Err f

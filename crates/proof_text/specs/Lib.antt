@@ -1,4 +1,4 @@
-pub mod Words
+pub mod Numbers
 pub mod Results
 pub mod Dimacs
 pub mod Lrat

@@ -1,6 +1,6 @@
 -- Which proof an LRAT text means, or its first fault. A line adds a lemma, `id lits 0 hints 0`, or deletes
--- clauses, `id d ids 0`. A line without words is left out, and so is one that begins with `c`.
--- The project's own: a fault stands at the word that breaks a rule, or at the end of the line where a word
+-- clauses, `id d ids 0`. A line without tokens is left out, and so is one that begins with `c`.
+-- The project's own: a fault stands at the token that breaks a rule, or at the end of the line where a token
 -- is missing. The id of a deletion may be any run of digits.
 use Rattle.std.specs.Prelude.{◌≡◌, ℕ, ◌+◌, ◌^◌, ◌==◌, nat_lt, nat_le, not, Bool, true, false, if◌then◌else◌, List, [], ◌∷◌, ◌++◌, length, Option, Some, None, Result, Ok, Err, ℤ, pos, option_to_list}
 use Rattle.knox_text.specs.declared.place.Place.{Place}
@@ -11,7 +11,8 @@ use Rattle.proof_text.specs.declared.fault.ProofFault.TheVariants.{Shape}
 use Rattle.proof_text.specs.declared.number.Number.{Number}
 use Rattle.proof_text.specs.declared.proof_line.ProofLine.{ProofLine}
 use Rattle.proof_text.specs.declared.proof_line.ProofLine.TheVariants.{Add, Delete}
-use Rattle.proof_text.specs.Words.{Word, words, place_of, number_of, unsigned}
+use Rattle.knox_text.specs.Tokens.{Token, tokens, place_of}
+use Rattle.proof_text.specs.Numbers.{number_of, unsigned}
 use Rattle.proof_text.specs.Results.{and_then}
 
 -- ---- a number in a list that a 0 ends: None where it can't stand there, and Some None at the end
@@ -46,64 +47,64 @@ id_at w = id_number (unsigned (number_of w))
 
 -- ---- lists of numbers
 
-abbrev pub number_then : {A : Type 0} → Option (Option A) → Place → List Word → Result (List A × List Word) ProofFault → Result (List A × List Word) ProofFault
+abbrev pub number_then : {A : Type 0} → Option (Option A) → Place → List Token → Result (List A × List Token) ProofFault → Result (List A × List Token) ProofFault
 number_then None at ws more = Err (Shape at)
 number_then (Some None) at ws more = Ok ([], ws)
 number_then (Some (Some x)) at ws more = and_then more (λ p. Ok (x ∷ p.0, p.1))
 
--- the numbers up to the 0, and the words behind it
-abbrev pub numbers : {A : Type 0} → (List ℕ → Option (Option A)) → ℕ → ℕ → List Word → Result (List A × List Word) ProofFault
+-- the numbers up to the 0, and the tokens behind it
+abbrev pub numbers : {A : Type 0} → (List ℕ → Option (Option A)) → ℕ → ℕ → List Token → Result (List A × List Token) ProofFault
 numbers read n width [] = Err (Shape (place_of n width 0))
 numbers read n width (w ∷ ws) = number_then (read w.bytes) (place_of n width w.left) ws (numbers read n width ws)
 
 -- ---- lines
 
--- no word is left
-abbrev pub ended : ℕ → ℕ → List Word → ProofLine → Result (Option ProofLine) ProofFault
+-- no token is left
+abbrev pub ended : ℕ → ℕ → List Token → ProofLine → Result (Option ProofLine) ProofFault
 ended n width [] line = Ok (Some line)
 ended n width (w ∷ ws) line = Err (Shape (place_of n width w.left))
 
-abbrev pub addition : ℕ → ℕ → ℕ → List Word → Result (Option ProofLine) ProofFault
+abbrev pub addition : ℕ → ℕ → ℕ → List Token → Result (Option ProofLine) ProofFault
 addition n width id ws =
     and_then (numbers literal_at n width ws) (λ ls.
     and_then (numbers hint_at n width ls.1) (λ hs.
     ended n width hs.1 (Add n id ls.0 hs.0)))
 
-abbrev pub deletion : ℕ → ℕ → List Word → Result (Option ProofLine) ProofFault
+abbrev pub deletion : ℕ → ℕ → List Token → Result (Option ProofLine) ProofFault
 deletion n width ws = and_then (numbers id_at n width ws) (λ is. ended n width is.1 (Delete n is.0))
 
--- the word `d`
+-- the token `d`
 abbrev pub is_d : List ℕ → Bool
 is_d (b ∷ []) = b == 100
 is_d w = false
 
-abbrev pub begins_with_d : List Word → Bool
+abbrev pub begins_with_d : List Token → Bool
 begins_with_d [] = false
 begins_with_d (w ∷ ws) = is_d w.bytes
 
--- some words are the word `d` and others
-abbrev pub has_d : List Word → List Word → Type 0
+-- some tokens are the token `d` and others
+abbrev pub has_d : List Token → List Token → Type 0
 has_d [] others = ⊥
 has_d (w ∷ ws) others = (is_d w.bytes ≡ true) × (ws ≡ others)
 
-abbrev pub addition_if : ℕ → ℕ → Place → ℕ → List Word → Result (Option ProofLine) ProofFault
+abbrev pub addition_if : ℕ → ℕ → Place → ℕ → List Token → Result (Option ProofLine) ProofFault
 addition_if n width at id ws = if nat_lt id (2 ^ 64) then addition n width id ws else Err (Shape at)
 
-abbrev pub after_id : ℕ → ℕ → Place → ℕ → List Word → Result (Option ProofLine) ProofFault
+abbrev pub after_id : ℕ → ℕ → Place → ℕ → List Token → Result (Option ProofLine) ProofFault
 after_id n width at id [] = addition_if n width at id []
 after_id n width at id (w ∷ ws) = if is_d w.bytes then deletion n width ws else addition_if n width at id (w ∷ ws)
 
-abbrev pub with_id : ℕ → ℕ → Place → Option ℕ → List Word → Result (Option ProofLine) ProofFault
+abbrev pub with_id : ℕ → ℕ → Place → Option ℕ → List Token → Result (Option ProofLine) ProofFault
 with_id n width at None ws = Err (Shape at)
 with_id n width at (Some id) ws = after_id n width at id ws
 
--- what the words of a line with a number and a width mean
-abbrev pub entry : ℕ → ℕ → List Word → Result (Option ProofLine) ProofFault
+-- what the tokens of a line with a number and a width mean
+abbrev pub entry : ℕ → ℕ → List Token → Result (Option ProofLine) ProofFault
 entry n width [] = Ok None
 entry n width (w ∷ ws) = with_id n width (place_of n width w.left) (unsigned (number_of w.bytes)) ws
 
 abbrev pub line_of : ℕ → List ℕ → Result (Option ProofLine) ProofFault
-line_of n l = if begins_with 99 l then Ok None else entry n (length l) (words l)
+line_of n l = if begins_with 99 l then Ok None else entry n (length l) (tokens l)
 
 abbrev pub lines_of : ℕ → List (List ℕ) → Result (List ProofLine) ProofFault
 lines_of n [] = Ok []

@@ -5,42 +5,41 @@ ghost use Rattle.knox_text.specs.Places.{start_of, end_of};
 ghost use Rattle.knox_cnf.specs.Literals.{literal as literal_is};
 ghost use Rattle.proof_text.specs.declared.draft.Stage.TheVariants as stages;
 ghost use Rattle.proof_text.specs.declared.fault.ProofFault.TheVariants.{Memory};
-ghost use Rattle.proof_text.specs.Words.{words, number_of};
+ghost use Rattle.knox_text.specs.Tokens.{tokens};
+ghost use Rattle.proof_text.specs.Numbers.{number_of};
 ghost use Rattle.proof_text.specs.Results.{Answers, and_then};
-ghost use Rattle.proof_text.specs.Dimacs.{Takes, is_p as is_p_word, is_cnf as is_cnf_word, expected, at_stage, size_of, with_vars, with_count, is_full as has_all, with_number, with_clause_word, with_word, with_words, with_line, with_lines, finished, cnf_of, is_none, nothing};
+ghost use Rattle.proof_text.specs.Dimacs.{Takes, is_p as is_p_token, is_cnf as is_cnf_token, expected, at_stage, size_of, with_vars, with_count, is_full as has_all, with_number, with_clause_token, with_token, with_tokens, with_line, with_lines, finished, cnf_of, is_none, nothing};
 
 use crate::draft::{Draft, Stage};
 use crate::fault::ProofFault;
 use crate::number::{Number, read_number, unsigned};
-use crate::place::{Line, end_place, place};
-use crate::word::{begins_with_c, cut_word};
 use knox_cnf::{Clause, Cnf, Lit};
-use knox_text::{Place, cut_line};
+use knox_text::{Line, Place, begins_with, cut_line, cut_token, end_place};
 use sqlite_items::Items;
 use std::alloc::{AllocError, Global};
 
 /// The greatest number of variables, and of clauses.
 const GREATEST_SIZE: u128 = 10_000_000;
 
-fn is_p(word: &[u8]) -> bool
-    ensures { result ≡ is_p_word word.now }
+fn is_p(token: &[u8]) -> bool
+    ensures { result ≡ is_p_token token.now }
 {
-    match word {
+    match token {
         [byte] => *byte == b'p',
         _ => false,
     }
 }
 
-fn is_cnf(word: &[u8]) -> bool
-    ensures { result ≡ is_cnf_word word.now }
+fn is_cnf(token: &[u8]) -> bool
+    ensures { result ≡ is_cnf_token token.now }
 {
-    match word {
+    match token {
         [first, second, third] => *first == b'c' && (*second == b'n' && *third == b'f'),
         _ => false,
     }
 }
 
-/// Goes on to a stage if a word of the header is the expected one.
+/// Goes on to a stage if a token of the header is the expected one.
 fn expect(draft: &mut Draft, is_expected: bool, at: Place, stage: Stage) -> Result<(), ProofFault>
     ensures { Takes result draft.new (expected is_expected at (at_stage draft.old stage)) }
 {
@@ -52,10 +51,10 @@ fn expect(draft: &mut Draft, is_expected: bool, at: Place, stage: Stage) -> Resu
 }
 
 /// A number of the header.
-fn size(word: &[u8]) -> Option<u32>
-    ensures { result ≡ size_of word.now }
+fn size(token: &[u8]) -> Option<u32>
+    ensures { result ≡ size_of token.now }
 {
-    match unsigned(word) {
+    match unsigned(token) {
         None => None,
         Some(number) => {
             if number <= GREATEST_SIZE {
@@ -67,10 +66,10 @@ fn size(word: &[u8]) -> Option<u32>
     }
 }
 
-fn take_vars(draft: &mut Draft, at: Place, word: &[u8]) -> Result<(), ProofFault>
-    ensures { Takes result draft.new (with_vars draft.old at (size_of word.now)) }
+fn take_vars(draft: &mut Draft, at: Place, token: &[u8]) -> Result<(), ProofFault>
+    ensures { Takes result draft.new (with_vars draft.old at (size_of token.now)) }
 {
-    match size(word) {
+    match size(token) {
         None => Err(ProofFault::Header(at)),
         Some(vars) => {
             draft.vars = vars;
@@ -80,10 +79,10 @@ fn take_vars(draft: &mut Draft, at: Place, word: &[u8]) -> Result<(), ProofFault
     }
 }
 
-fn take_count(draft: &mut Draft, at: Place, word: &[u8]) -> Result<(), ProofFault>
-    ensures { Takes result draft.new (with_count draft.old at (size_of word.now)) }
+fn take_count(draft: &mut Draft, at: Place, token: &[u8]) -> Result<(), ProofFault>
+    ensures { Takes result draft.new (with_count draft.old at (size_of token.now)) }
 {
-    match size(word) {
+    match size(token) {
         None => Err(ProofFault::Header(at)),
         Some(count) => {
             draft.count = count;
@@ -158,18 +157,18 @@ fn take_number(
     Ok(())
 }
 
-fn take_clause_word(
+fn take_clause_token(
     alloc: Global,
     draft: &mut Draft,
     at: Place,
-    word: &[u8],
+    token: &[u8],
 ) -> Result<(), ProofFault>
-    ensures { Takes result draft.new (with_clause_word draft.old at word.now (number_of word.now)) }
+    ensures { Takes result draft.new (with_clause_token draft.old at token.now (number_of token.now)) }
 {
-    match read_number(word) {
+    match read_number(token) {
         Some(number) => take_number(alloc, draft, at, number),
         None => {
-            if is_p(word) {
+            if is_p(token) {
                 Err(ProofFault::Header(at))
             } else {
                 Err(ProofFault::Shape(at))
@@ -178,26 +177,26 @@ fn take_clause_word(
     }
 }
 
-fn take_word(alloc: Global, draft: &mut Draft, at: Place, word: &[u8]) -> Result<(), ProofFault>
-    ensures { Takes result draft.new (with_word draft.old at word.now) }
+fn take_token(alloc: Global, draft: &mut Draft, at: Place, token: &[u8]) -> Result<(), ProofFault>
+    ensures { Takes result draft.new (with_token draft.old at token.now) }
 {
     match draft.stage {
-        Stage::Start => expect(draft, is_p(word), at, Stage::Format),
-        Stage::Format => expect(draft, is_cnf(word), at, Stage::Variables),
-        Stage::Variables => take_vars(draft, at, word),
-        Stage::Clauses => take_count(draft, at, word),
-        Stage::Body => take_clause_word(alloc, draft, at, word),
+        Stage::Start => expect(draft, is_p(token), at, Stage::Format),
+        Stage::Format => expect(draft, is_cnf(token), at, Stage::Variables),
+        Stage::Variables => take_vars(draft, at, token),
+        Stage::Clauses => take_count(draft, at, token),
+        Stage::Body => take_clause_token(alloc, draft, at, token),
     }
 }
 
-fn take_words(alloc: Global, draft: &mut Draft, line: Line, text: &[u8]) -> Result<(), ProofFault>
+fn take_tokens(alloc: Global, draft: &mut Draft, line: Line, text: &[u8]) -> Result<(), ProofFault>
     requires { line.width ≤ 67108864 }
-    ensures { Takes result draft.new (with_words draft.old line.number line.width (words text.now)) }
+    ensures { Takes result draft.new (with_tokens draft.old line.number line.width (tokens text.now)) }
 {
     let mut rest = text;
-    while let Some(cut) = cut_word(rest) {
-        let at = place(line, cut.left);
-        match take_word(alloc, draft, at, cut.word) {
+    while let Some(cut) = cut_token(rest) {
+        let at = line.place(cut.token.left);
+        match take_token(alloc, draft, at, cut.token.bytes) {
             Ok(()) => {}
             Err(fault) => return Err(fault),
         }
@@ -210,11 +209,11 @@ fn take_line(alloc: Global, draft: &mut Draft, number: u32, line: &[u8]) -> Resu
     requires { length line.now ≤ 67108864 }
     ensures { Takes result draft.new (with_line draft.old number line.now) }
 {
-    if has_no_open_clause(draft) && begins_with_c(line) {
+    if has_no_open_clause(draft) && begins_with(b'c', line) {
         return Ok(());
     }
     let width = line.len();
-    take_words(alloc, draft, Line { number, width }, line)
+    take_tokens(alloc, draft, Line { number, width }, line)
 }
 
 fn take_lines(alloc: Global, draft: &mut Draft, text: &[u8]) -> Result<(), ProofFault>

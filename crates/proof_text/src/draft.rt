@@ -2,7 +2,7 @@
 use knox_cnf::{Clause, Lit};
 use sqlite_items::Items;
 
-/// What the next word is to be.
+/// What the next token is to be.
 #[derive(Clone, Copy)]
 pub enum Stage {
     /// `p`

@@ -5,7 +5,7 @@ ghost use Rattle.proof_text.specs.declared.fault.ProofFault.TheVariants.{Memory}
 use knox_text::Place;
 use std::alloc::AllocError;
 
-/// The first fault of a text, at the word that breaks a rule, or where a word is missing.
+/// The first fault of a text, at the token that breaks a rule, or where a token is missing.
 #[derive(Clone, Copy, Debug, PartialEq, Eq)]
 pub enum ProofFault {
     /// A formula's text doesn't begin with `p cnf V C`, or `p` stands a second time.
@@ -14,7 +14,7 @@ pub enum ProofFault {
     Count(Place),
     /// The literal's variable is past the number of variables.
     Variable(Place),
-    /// A word or the end of a line stands where the format has something else.
+    /// A token or the end of a line stands where the format has something else.
     Shape(Place),
     /// Memory ran out. This says nothing of the text.
     Memory,

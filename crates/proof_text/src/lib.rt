@@ -1,7 +1,6 @@
 //! DIMACS formulas and LRAT proofs as texts. Start at `read_cnf` and `read_lrat`, or at
-//! `LratReader`, which holds one line at a time. `specs/Words.antt` says
-//! which words a line has, `specs/Dimacs.antt` which formula a text means, and `specs/Lrat.antt` which
-//! proof, or the first fault.
+//! `LratReader`, which holds one line at a time. `specs/Dimacs.antt` says which formula a text means,
+//! and `specs/Lrat.antt` which proof, or the first fault.
 #![tactic(auto)]
 
 mod dimacs;
@@ -10,13 +9,11 @@ mod examples;
 mod fault;
 mod lrat;
 mod number;
-mod place;
 mod printing;
 mod proof_line;
 mod reader;
 #[cfg(test)]
 mod tests;
-mod word;
 
 pub use dimacs::read_cnf;
 pub use examples::{formulas_as_expected, proofs_as_expected};

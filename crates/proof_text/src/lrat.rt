@@ -3,18 +3,16 @@ ghost use Rattle.std.specs.Prelude.{◌≡◌, ◌≤◌, ◌<◌, ◌+◌, ◌^
 ghost use Rattle.knox_cnf.specs.Literals.{signed as signed_is};
 ghost use Rattle.knox_text.specs.Lines.{lines};
 ghost use Rattle.proof_text.specs.declared.fault.ProofFault.TheVariants.{Memory};
-ghost use Rattle.proof_text.specs.Words.{words, place_of};
+ghost use Rattle.knox_text.specs.Tokens.{tokens, place_of};
 ghost use Rattle.proof_text.specs.Results.{Answers};
-ghost use Rattle.proof_text.specs.Lrat.{literal_at as literal_is, hint_at as hint_is, id_at as id_is, numbers, ended, addition as addition_is, deletion as deletion_is, is_d as is_d_word, after_id as after_id_is, entry as entry_is, line_of, lrat_of, begins_with_d, has_d};
+ghost use Rattle.proof_text.specs.Lrat.{literal_at as literal_is, hint_at as hint_is, id_at as id_is, numbers, ended, addition as addition_is, deletion as deletion_is, is_d as is_d_token, after_id as after_id_is, entry as entry_is, line_of, lrat_of, begins_with_d, has_d};
 
 use crate::fault::ProofFault;
 use crate::number::{read_number, unsigned};
-use crate::place::{Line, place};
 use crate::proof_line::ProofLine;
 use crate::reader::LratReader;
-use crate::word::{begins_with_c, cut_word};
 use knox_cnf::Lit;
-use knox_text::Place;
+use knox_text::{Line, Place, begins_with, cut_token};
 use sqlite_items::Items;
 use std::alloc::Global;
 
@@ -33,10 +31,10 @@ fn signed(negative: bool, magnitude: u64) -> i64
 }
 
 /// A literal in a list that a 0 ends: `Some(None)` at the 0.
-fn literal_at(word: &[u8]) -> Option<Option<Lit>>
-    ensures { result ≡ literal_is word.now }
+fn literal_at(token: &[u8]) -> Option<Option<Lit>>
+    ensures { result ≡ literal_is token.now }
 {
-    let number = read_number(word)?;
+    let number = read_number(token)?;
     if number.magnitude == 0 {
         return if number.negative { None } else { Some(None) };
     }
@@ -49,10 +47,10 @@ fn literal_at(word: &[u8]) -> Option<Option<Lit>>
     }
 }
 
-fn hint_at(word: &[u8]) -> Option<Option<i64>>
-    ensures { result ≡ hint_is word.now }
+fn hint_at(token: &[u8]) -> Option<Option<i64>>
+    ensures { result ≡ hint_is token.now }
 {
-    let number = read_number(word)?;
+    let number = read_number(token)?;
     if number.magnitude == 0 {
         return if number.negative { None } else { Some(None) };
     }
@@ -65,10 +63,10 @@ fn hint_at(word: &[u8]) -> Option<Option<i64>>
     None
 }
 
-fn id_at(word: &[u8]) -> Option<Option<u64>>
-    ensures { result ≡ id_is word.now }
+fn id_at(token: &[u8]) -> Option<Option<u64>>
+    ensures { result ≡ id_is token.now }
 {
-    let number = unsigned(word)?;
+    let number = unsigned(token)?;
     if number == 0 {
         return Some(None);
     }
@@ -83,13 +81,13 @@ fn id_at(word: &[u8]) -> Option<Option<u64>>
 fn read_lits<'a>(line: Line, text: &'a [u8], lits: &mut Items<Lit>) -> Result<&'a [u8], ProofFault>
     requires width { line.width ≤ 67108864 }
     requires none { lits.old ≡ [] }
-    ensures ok { IfOk result (λ rest. numbers literal_is line.number line.width (words text.now) ≡ Ok (lits.new, words rest.now)) }
-    ensures err { IfErr result (λ f. (f ≡ Memory) ⊎ (numbers literal_is line.number line.width (words text.now) ≡ Err f)) }
+    ensures ok { IfOk result (λ rest. numbers literal_is line.number line.width (tokens text.now) ≡ Ok (lits.new, tokens rest.now)) }
+    ensures err { IfErr result (λ f. (f ≡ Memory) ⊎ (numbers literal_is line.number line.width (tokens text.now) ≡ Err f)) }
 {
     let mut rest = text;
-    while let Some(cut) = cut_word(rest) {
-        let at = place(line, cut.left);
-        match literal_at(cut.word) {
+    while let Some(cut) = cut_token(rest) {
+        let at = line.place(cut.token.left);
+        match literal_at(cut.token.bytes) {
             None => return Err(ProofFault::Shape(at)),
             Some(entry) => match entry {
                 None => return Ok(cut.rest),
@@ -98,7 +96,7 @@ fn read_lits<'a>(line: Line, text: &'a [u8], lits: &mut Items<Lit>) -> Result<&'
         }
         rest = cut.rest;
     }
-    Err(ProofFault::Shape(place(line, 0)))
+    Err(ProofFault::Shape(line.place(0)))
 }
 
 /// Reads hints up to the 0, and answers the line behind it.
@@ -109,13 +107,13 @@ fn read_hints<'a>(
 ) -> Result<&'a [u8], ProofFault>
     requires width { line.width ≤ 67108864 }
     requires none { hints.old ≡ [] }
-    ensures ok { IfOk result (λ rest. numbers hint_is line.number line.width (words text.now) ≡ Ok (hints.new, words rest.now)) }
-    ensures err { IfErr result (λ f. (f ≡ Memory) ⊎ (numbers hint_is line.number line.width (words text.now) ≡ Err f)) }
+    ensures ok { IfOk result (λ rest. numbers hint_is line.number line.width (tokens text.now) ≡ Ok (hints.new, tokens rest.now)) }
+    ensures err { IfErr result (λ f. (f ≡ Memory) ⊎ (numbers hint_is line.number line.width (tokens text.now) ≡ Err f)) }
 {
     let mut rest = text;
-    while let Some(cut) = cut_word(rest) {
-        let at = place(line, cut.left);
-        match hint_at(cut.word) {
+    while let Some(cut) = cut_token(rest) {
+        let at = line.place(cut.token.left);
+        match hint_at(cut.token.bytes) {
             None => return Err(ProofFault::Shape(at)),
             Some(entry) => match entry {
                 None => return Ok(cut.rest),
@@ -124,20 +122,20 @@ fn read_hints<'a>(
         }
         rest = cut.rest;
     }
-    Err(ProofFault::Shape(place(line, 0)))
+    Err(ProofFault::Shape(line.place(0)))
 }
 
 /// Reads ids up to the 0, and answers the line behind it.
 fn read_ids<'a>(line: Line, text: &'a [u8], ids: &mut Items<u64>) -> Result<&'a [u8], ProofFault>
     requires width { line.width ≤ 67108864 }
     requires none { ids.old ≡ [] }
-    ensures ok { IfOk result (λ rest. numbers id_is line.number line.width (words text.now) ≡ Ok (ids.new, words rest.now)) }
-    ensures err { IfErr result (λ f. (f ≡ Memory) ⊎ (numbers id_is line.number line.width (words text.now) ≡ Err f)) }
+    ensures ok { IfOk result (λ rest. numbers id_is line.number line.width (tokens text.now) ≡ Ok (ids.new, tokens rest.now)) }
+    ensures err { IfErr result (λ f. (f ≡ Memory) ⊎ (numbers id_is line.number line.width (tokens text.now) ≡ Err f)) }
 {
     let mut rest = text;
-    while let Some(cut) = cut_word(rest) {
-        let at = place(line, cut.left);
-        match id_at(cut.word) {
+    while let Some(cut) = cut_token(rest) {
+        let at = line.place(cut.token.left);
+        match id_at(cut.token.bytes) {
             None => return Err(ProofFault::Shape(at)),
             Some(entry) => match entry {
                 None => return Ok(cut.rest),
@@ -146,17 +144,17 @@ fn read_ids<'a>(line: Line, text: &'a [u8], ids: &mut Items<u64>) -> Result<&'a 
         }
         rest = cut.rest;
     }
-    Err(ProofFault::Shape(place(line, 0)))
+    Err(ProofFault::Shape(line.place(0)))
 }
 
-/// A line of the proof, if no word is left.
+/// A line of the proof, if no token is left.
 fn end_line(line: Line, rest: &[u8], made: ProofLine) -> Result<Option<ProofLine>, ProofFault>
     requires { line.width ≤ 67108864 }
-    ensures { Answers result (ended line.number line.width (words rest.now) made) }
+    ensures { Answers result (ended line.number line.width (tokens rest.now) made) }
 {
-    match cut_word(rest) {
+    match cut_token(rest) {
         None => Ok(Some(made)),
-        Some(cut) => Err(ProofFault::Shape(place(line, cut.left))),
+        Some(cut) => Err(ProofFault::Shape(line.place(cut.token.left))),
     }
 }
 
@@ -167,7 +165,7 @@ fn addition(
     text: &[u8],
 ) -> Result<Option<ProofLine>, ProofFault>
     requires { line.width ≤ 67108864 }
-    ensures { Answers result (addition_is line.number line.width id (words text.now)) }
+    ensures { Answers result (addition_is line.number line.width id (tokens text.now)) }
 {
     let mut lits = Items::new(alloc);
     let mut hints = Items::new(alloc);
@@ -182,28 +180,34 @@ fn addition(
 
 fn deletion(alloc: Global, line: Line, text: &[u8]) -> Result<Option<ProofLine>, ProofFault>
     requires { line.width ≤ 67108864 }
-    ensures { Answers result (deletion_is line.number line.width (words text.now)) }
+    ensures { Answers result (deletion_is line.number line.width (tokens text.now)) }
 {
     let mut ids = Items::new(alloc);
     let behind_ids = read_ids(line, text, &mut ids)?;
     end_line(line, behind_ids, ProofLine::Delete(line.number, ids))
 }
 
-/// Whether the next word is `d`, and the line behind it.
+/// Whether the next token is `d`, and the line behind it.
 fn behind_d(text: &[u8]) -> Option<&[u8]>
-    ensures some { IfSome result (λ rest. has_d (words text.now) (words rest.now)) }
-    ensures none { IfNone result (begins_with_d (words text.now) ≡ false) }
+    ensures some { IfSome result (λ rest. has_d (tokens text.now) (tokens rest.now)) }
+    ensures none { IfNone result (begins_with_d (tokens text.now) ≡ false) }
 {
-    match cut_word(text) {
+    match cut_token(text) {
         None => None,
-        Some(cut) => { if is_d(cut.word) { Some(cut.rest) } else { None } }
+        Some(cut) => {
+            if is_d(cut.token.bytes) {
+                Some(cut.rest)
+            } else {
+                None
+            }
+        }
     }
 }
 
-fn is_d(word: &[u8]) -> bool
-    ensures { result ≡ is_d_word word.now }
+fn is_d(token: &[u8]) -> bool
+    ensures { result ≡ is_d_token token.now }
 {
-    match word {
+    match token {
         [byte] => *byte == b'd',
         _ => false,
     }
@@ -217,7 +221,7 @@ fn after_id(
     text: &[u8],
 ) -> Result<Option<ProofLine>, ProofFault>
     requires { line.width ≤ 67108864 }
-    ensures { Answers result (after_id_is line.number line.width at id (words text.now)) }
+    ensures { Answers result (after_id_is line.number line.width at id (tokens text.now)) }
 {
     match behind_d(text) {
         Some(rest) => deletion(alloc, line, rest),
@@ -233,13 +237,13 @@ fn after_id(
 
 fn entry(alloc: Global, line: Line, text: &[u8]) -> Result<Option<ProofLine>, ProofFault>
     requires { line.width ≤ 67108864 }
-    ensures { Answers result (entry_is line.number line.width (words text.now)) }
+    ensures { Answers result (entry_is line.number line.width (tokens text.now)) }
 {
-    match cut_word(text) {
+    match cut_token(text) {
         None => Ok(None),
         Some(cut) => {
-            let at = place(line, cut.left);
-            match unsigned(cut.word) {
+            let at = line.place(cut.token.left);
+            match unsigned(cut.token.bytes) {
                 None => Err(ProofFault::Shape(at)),
                 Some(id) => after_id(alloc, line, at, id, cut.rest),
             }
@@ -252,7 +256,7 @@ pub fn read_line(alloc: Global, number: u32, text: &[u8]) -> Result<Option<Proof
     requires { length text.now ≤ 67108864 }
     ensures { Answers result (line_of number text.now) }
 {
-    if begins_with_c(text) {
+    if begins_with(b'c', text) {
         return Ok(None);
     }
     let width = text.len();

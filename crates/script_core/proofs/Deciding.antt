@@ -2,14 +2,14 @@
 use Rattle.std.proofs.Common.{◌≡◌, ℕ, zero, suc, ◌+◌, ◌-◌, ◌^◌, ◌<◌, ◌≤◌, ◌==◌, ◌⊎◌, inl, inr, Some, None, List, [], ◌∷◌, ◌++◌, eqb-true, Bool, true, false, if◌then◌else◌, refl, ap, sym, ◌∙◌, subst, append_assoc, arith}
 use Rattle.knox_words.specs.Bits.{Bits, bits, IsWord, is_word}
 use Rattle.knox_words.specs.Lists.{Words, fits, total}
-use Rattle.knox_theory.specs.Course.{Course, Check, Assume, Take, Mark, Tell, Done, Failed, Short, run}
+use Rattle.knox_theory.specs.Course.{Course, Check, Assume, Take, Mark, Tell, Done, Failed, Short, run, used}
 use Rattle.knox_theory.specs.Design.{Design}
 use Rattle.knox_theory.specs.Script.{Script}
 use Rattle.knox_theory.specs.Segments.{Segment, segments}
 use Rattle.knox_theory.specs.Closed.{IsAmong}
 use Rattle.knox_theory.specs.Numbered.{Within}
 use Rattle.knox_theory.specs.Searched.{SafeFrom, wants}
-use Rattle.knox_words.proofs.Lists.{fits-IsWord}
+use Rattle.knox_words.proofs.Lists.{fits-IsWord, fits-from}
 use Rattle.knox_theory.proofs.Basics.{and-left}
 use Rattle.knox_theory.proofs.Searching.{leaf, branch, refused}
 use Rattle.knox_theory.proofs.Widths.{segments-within}
@@ -133,6 +133,43 @@ no-word t front w v e never = record {
 
 pub all-tried : (t : Course) (front : Words) (w n : ℕ) → wants t front ≡ Some w → n ≡ 2 ^ w → ((v : ℕ) → v < n → SafeFrom t (front ++ bits w v ∷ [])) → SafeFrom t front
 all-tried t front w n e is all = branch t front w e (λ v lt. all v (subst (λ z. v < z) (sym is) lt))
+
+-- THE WORDS THAT ARE TAKEN. A run takes all words of a front behind which it wants one
+pub none-used : (t : Course) → used t [] ≡ []
+none-used (Check true h rest) = none-used rest
+none-used (Check false h rest) = refl
+none-used (Assume true rest) = none-used rest
+none-used (Assume false rest) = refl
+none-used (Take w rest) = refl
+none-used (Mark l s rest) = none-used rest
+none-used (Tell n rest) = none-used rest
+none-used Done = refl
+
+-- and then the word of the width that it wants
+used-wanted : (t : Course) (front : Words) (w : ℕ) (c : Bits) → wants t front ≡ Some w → fits w c ≡ true → used t (front ++ c ∷ []) ≡ front ++ c ∷ []
+used-wanted (Check true h rest) front w c e f = used-wanted rest front w c e f
+used-wanted (Check false h rest) front w c e f = cc
+used-wanted (Assume true rest) front w c e f = used-wanted rest front w c e f
+used-wanted (Assume false rest) front w c e f = cc
+used-wanted (Take v rest) [] w c e f =
+    let same : w ≡ v = cc in
+    let here : fits v c ≡ true = subst (λ k. fits k c ≡ true) same f in
+    ap (λ b. if b then c ∷ used (rest c) [] else []) here ∙ ap (λ cs. c ∷ cs) (none-used (rest c))
+used-wanted (Take v rest) (x ∷ front) w c e f = by_test (fits v x) refl e
+  where
+    by_test : (b : Bool) → fits v x ≡ b → (if b then wants (rest x) front else None) ≡ Some w → used (Take v rest) (x ∷ (front ++ c ∷ [])) ≡ x ∷ (front ++ c ∷ [])
+    by_test true here p =
+        ap (λ b. if b then x ∷ used (rest x) (front ++ c ∷ []) else []) here ∙ ap (λ cs. x ∷ cs) (used-wanted (rest x) front w c p f)
+    by_test false here p = cc
+used-wanted (Mark l s rest) front w c e f = used-wanted rest front w c e f
+used-wanted (Tell n rest) front w c e f = used-wanted rest front w c e f
+used-wanted Done front w c e f = cc
+
+-- so the front with that word is taken whole
+pub taken-whole : (t : Course) (front pushed : Words) (c : Bits) (w v : ℕ) → wants t front ≡ Some w → IsWord (bits w v) → c ≡ bits w v → pushed ≡ front ++ c ∷ [] → used t pushed ≡ pushed
+taken-whole t front pushed c w v e word is p =
+    let f : fits w c ≡ true = subst (λ z. fits w z ≡ true) (sym is) (fits-from w (bits w v) refl word) in
+    subst (λ z. used t z ≡ z) (sym p) (used-wanted t front w c e f)
 
 -- THE CODE'S ANSWERS. What an answer of a run over some words says of its course
 reached : (p q : Progress) (t : Course) (given front : Words) → p ≡ q → reach_of p ≡ reach t given → given ≡ front → reach_of q ≡ reach t front

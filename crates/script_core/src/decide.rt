@@ -3,7 +3,7 @@
 ghost use Rattle.std.specs.Prelude.{◌≡◌, ◌+◌, ◌^◌, ◌<◌, ◌≤◌, ◌∷◌, ◌++◌, [], Some, IfOk};
 ghost use Rattle.knox_words.specs.Bits.{bits};
 ghost use Rattle.knox_words.specs.Lists.{total};
-ghost use Rattle.knox_theory.specs.Course.{Course};
+ghost use Rattle.knox_theory.specs.Course.{Course, used};
 ghost use Rattle.knox_theory.specs.Searched.{wants};
 ghost use Rattle.knox_lang.specs.WellFormed.{word_widths};
 ghost use Rattle.script_core.specs.Rooms.{room_for, made_for};
@@ -27,7 +27,7 @@ const MOST_BITS: u32 = 20;
 pub enum Plain {
     /// No choices falsify a hint of it.
     Holds,
-    /// The run over these choices fails at this hint.
+    /// The run over these choices fails at this hint, and takes all of them.
     Falsified(HintNo, Choices),
 }
 
@@ -36,14 +36,15 @@ pub enum Plain {
 pub enum Checked {
     /// No choices falsify a hint of it.
     Holds,
-    /// The run over these choices fails at this hint.
+    /// The run over these choices fails at this hint, and takes all of them.
     Falsified(HintNo, Choices),
     /// Its runs take more than 20 bits: the hint number of its section or cut, and the bits.
     TooWide(HintNo, u64),
 }
 
-/// Tries all choices that begin with these words, of which no run takes more than `left` bits
-/// behind them: the hint at which the first of them fails, and then `front` has them.
+/// Tries all choices that begin with these words, all of which are taken, and behind which no run
+/// takes more than `left` bits: the hint at which the first of them fails, and then `front` has
+/// them.
 #[cycle(search)]
 fn search(
     alloc: Global,
@@ -58,6 +59,7 @@ fn search(
     requires room { made_for room.old ≡ room_for dev.now }
     requires left { total (word_widths front.old) + left ≡ bits_at (segments_of dev.now.circuit dev.now.spec dev.now.driver dev.now.emulator sc.now) g.0 }
     requires few { left ≤ 20 }
+    requires taken { used (course_at (segments_of dev.now.circuit dev.now.spec dev.now.driver dev.now.emulator sc.now) g.0) front.old ≡ front.old }
     ensures found { IfOk result (λ found. Finds (course_at (segments_of dev.now.circuit dev.now.spec dev.now.driver dev.now.emulator sc.now) g.0) front.old front.old front.new found) }
     ensures room { made_for room.new ≡ made_for room.old }
 {

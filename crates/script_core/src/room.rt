@@ -152,7 +152,7 @@ impl Room {
         ensures run { IfOk result (λ l. Leads dev.now (wire_run dev.now sc.now) words.now (state_in self.new) (λ st. course_from dev.now sc.now (section_items sc.now.sections) (here st)) l) }
         ensures made { made_for self.new ≡ made_for self.old }
     {
-        knox_circuit::circuits_have_widths(&dev.circuit);
+        emu_machine::devices_take_no_noise(dev);
         knox_circuit::persistent_words_are_spread(&dev.circuit);
         let left = match take_words(self.widths.fields.as_slice(), words, &mut self.fields)? {
             Left::Ended(end) => return Ok(Left::Ended(end)),
@@ -178,6 +178,7 @@ impl Room {
         ensures fields { self.new.fields ≡ self.old.fields }
         ensures made { made_for self.new ≡ made_for self.old }
     {
+        emu_machine::devices_take_no_noise(dev);
         knox_circuit::circuits_have_widths(&dev.circuit);
         knox_circuit::circuits_keep_widths(&dev.circuit);
         let noise = Noise {

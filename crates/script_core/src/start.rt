@@ -47,7 +47,7 @@ pub fn starts_refined(alloc: Global, dev: &Device, sc: &Script) -> Result<bool, 
     ensures value { IfOk result (λ b. b ≡ refines dev.now.spec.funs (cells_of dev.now.circuit.lines) dev.now.driver.keep sc.now.refine dev.now.spec.init (persistent_words (cells_of dev.now.circuit.lines) dev.now.driver.keep (factory_state dev.now.circuit.lines []))) }
     ensures starts { IfOk result (λ b. (b ≡ true) ↔ StartsRefined (design dev.now) (script dev.now sc.now)) }
 {
-    knox_circuit::circuits_have_widths(&dev.circuit);
+    emu_machine::devices_take_no_noise(dev);
     let refined = factory_refined(alloc, dev, sc)?;
     Ok(refined)
 }

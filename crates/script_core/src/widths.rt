@@ -304,11 +304,11 @@ fn kept_bits(dev: &Device) -> u64
     bits_of_kept(dev.circuit.cells(), dev.driver.keep())
 }
 
-/// Of the segment of `wire`: the fields and the cells that are kept, since no circuit has noise.
+/// Of the segment of `wire`: the fields and the cells that are kept, since no device takes noise.
 fn wire_bits(dev: &Device, sc: &Script) -> u64
     ensures { result ≡ counted (bits_at (segments_of dev.now.circuit dev.now.spec dev.now.driver dev.now.emulator sc.now) 0) }
 {
-    knox_circuit::circuits_have_widths(&dev.circuit);
+    emu_machine::devices_take_no_noise(dev);
     let _parts = sc.parts();
     let root = field_bits(dev).saturating_add(kept_bits(dev));
     root.saturating_add(item_bits(dev, sc, SegmentNo(0)))

@@ -1,6 +1,6 @@
 use Rattle.std.proofs.Common.{◌+◌, arith}
 use Rattle.btor_read.specs.Grammar.{circuit_of}
-use Rattle.btor_read.proofs.Circuits.{row-read}
+use Rattle.btor_read.proofs.Circuits.{row-read, row-refused}
 use Rattle.btor_read.proofs.reading.read_circuit.Goals as goal
 
 pub loop-cut-preserved : goal.loop-cut-preserved
@@ -13,3 +13,6 @@ loop-cut-preserved c =
       form = c.in-Ok.ensures.form;
       last = c.in-Ok.ensures.last;
     }
+
+pub returns-in-Err-clause-refused : goal.returns-in-Err-clause-refused
+returns-in-Err-clause-refused c = λ other. row-refused c.loop-cut.draft.lines c.loop-cut.rest.now c.in-Some.cut.piece.now c.in-Some.cut.rest.now (c.loop-cut.at + 1) (circuit_of c.args.bytes.now) c.in-Some.ensures.line (c.in-Err.ensures.err other) c.loop-cut.invariant.whole

@@ -1,4 +1,4 @@
-use Rattle.knox_text.proofs.Cutting.{not-empty, cut_line_is}
+use Rattle.knox_text.proofs.LineLemmas.{not-empty, cut_line_is}
 use Rattle.knox_text.proofs.lines.cut_line.Goals as goal
 
 pub returns-clause-line : goal.returns-clause-line

@@ -1,6 +1,6 @@
 use Rattle.std.proofs.Common.{◌≡◌, ◌∙◌, ap, sym, drop, false, arith}
 use Rattle.knox_text.specs.Pieces.{ends_line}
-use Rattle.knox_text.proofs.Cutting.{slice-rest, line_more}
+use Rattle.knox_text.proofs.LineLemmas.{slice-rest, line_more}
 use Rattle.knox_text.proofs.lines.line_length.Goals as goal
 
 pub loop-end-preserved : goal.loop-end-preserved

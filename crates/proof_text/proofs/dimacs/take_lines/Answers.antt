@@ -1,7 +1,7 @@
 use Rattle.std.proofs.Common.{◌≤◌, ◌∙◌, length, arith, subst, sym}
 use Rattle.knox_text.specs.Lines.{lines}
 use Rattle.proof_text.specs.Dimacs.{Takes}
-use Rattle.proof_text.proofs.WordLemmas.{first_line_short}
+use Rattle.knox_text.proofs.LineLemmas.{first_line_short}
 use Rattle.proof_text.proofs.DimacsLemmas.{lines-more, lines-refused}
 use Rattle.proof_text.proofs.dimacs.take_lines.Goals as goal
 

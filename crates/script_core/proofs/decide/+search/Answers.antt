@@ -3,7 +3,7 @@ use Rattle.knox_words.specs.Bits.{IsWord, bits}
 use Rattle.knox_theory.specs.Searched.{wants}
 use Rattle.emu_machine.specs.Meaning.{design_of}
 use Rattle.script_core.specs.Hints.{script_of}
-use Rattle.script_core.proofs.Deciding.{course_in, wanted, wanted-fits, failed, over, no-word, left-less, all-tried}
+use Rattle.script_core.proofs.Deciding.{course_in, wanted, wanted-fits, failed, over, no-word, left-less, taken-whole, all-tried}
 use Rattle.script_core.proofs.decide.+search.Goals as goal
 
 not-some : false ≡ true → ⊥
@@ -20,8 +20,10 @@ search-try_words-requires t c =
     (omega (arith, c.decreases), (c.requires.segment, (c.run_over.ensures.room ∙ c.requires.room, (c.requires.left, (c.requires.few, (fits, want))))))
 
 pub search-returns-in-Failed-clause-found : goal.search-returns-in-Failed-clause-found
-search-returns-in-Failed-clause-found t c =
-    failed (course_in c.args.dev.now c.args.sc.now c.args.g.0) c.in_ok-hint.field-0 c.as_slice.result.now c.args.front.now c.in-Failed.hint c.in-Failed.is c.in_ok-hint.ensures.run c.as_slice.ensures
+search-returns-in-Failed-clause-found t c = record {
+  fails = failed (course_in c.args.dev.now c.args.sc.now c.args.g.0) c.in_ok-hint.field-0 c.as_slice.result.now c.args.front.now c.in-Failed.hint c.in-Failed.is c.in_ok-hint.ensures.run c.as_slice.ensures;
+  taken = c.requires.taken;
+}
 
 pub search-returns-in-Held : goal.search-returns-in-Held
 search-returns-in-Held t c = record {
@@ -41,7 +43,8 @@ try_word-search-requires t c =
     let wide : 1 ≤ c.args.width = word.wide in
     let same : c.from-2.result ≡ c.args.width = c.from-2.ensures in
     let less = left-less c.args.front.now c.push.new.self c.in-Some.word c.args.width c.from.result c.from-2.result c.args.left _ c.requires.left c.requires.within same c.in-Some.ensures.some c.in_ok-push.ensures.ok in
-    (omega (arith, c.decreases, wide, same, c.requires.within), (c.requires.segment, (c.requires.room, (less, omega (arith, c.requires.few)))))
+    let taken = taken-whole (course_in c.args.dev.now c.args.sc.now c.args.g.0) c.args.front.now c.push.new.self c.in-Some.word c.args.width c.from.result c.requires.wanted word c.in-Some.ensures.some c.in_ok-push.ensures.ok in
+    (omega (arith, c.decreases, wide, same, c.requires.within), (c.requires.segment, (c.requires.room, (less, (omega (arith, c.requires.few), taken)))))
 
 pub try_words-returns-clause-found : goal.try_words-returns-clause-found
 try_words-returns-clause-found t c =

@@ -1,6 +1,6 @@
 use Rattle.std.proofs.Common.{◌≤◌, length, arith}
 use Rattle.knox_text.specs.Lines.{lines}
-use Rattle.proof_text.proofs.WordLemmas.{first_line_short}
+use Rattle.knox_text.proofs.LineLemmas.{first_line_short}
 use Rattle.proof_text.proofs.reader.LratReader.next_line.Goals as goal
 
 pub read_line-requires : goal.read_line-requires

@@ -31,7 +31,7 @@ returns-then-not-branch-clause-run c =
     attach-vacuous c.args.dev.now c.args.sc.now c.as_slice.result.now c.as_slice-2.result.now c.args.words.now c.take_words.new.into c.in-On.left.now c.take_words-2.new.into c.in-On-2.left.now
     (c.as_slice.ensures.value ∙ ap (λ (s : RoomSizes). s.fields) c.requires) t.1
     (c.as_slice-2.ensures.value ∙ ap (λ (s : RoomSizes). s.persistent) c.requires) k.1
-    (c.circuits_have_widths.ensures.noise c.args.dev.now.driver.keep)
+    (c.devices_take_no_noise.ensures c.args.dev.now.driver.keep)
     (sym c.in_ok-is_refined.ensures.value ∙ c.if-not-branch.true)
 
 pub cycle_power-requires : goal.cycle_power-requires
@@ -54,7 +54,7 @@ returns-clause-run c =
       attach-on v c.args.sc.now c.as_slice.result.now c.as_slice-2.result.now c.args.words.now c.take_words.new.into c.in-On.left.now c.take_words-2.new.into c.in-On-2.left.now
           (c.as_slice.ensures.value ∙ ap (λ (s : RoomSizes). s.fields) c.requires) t.1
           (c.as_slice-2.ensures.value ∙ ap (λ (s : RoomSizes). s.persistent) c.requires) k.1
-          (c.circuits_have_widths.ensures.noise v.driver.keep)
+          (c.devices_take_no_noise.ensures v.driver.keep)
           (sym refined.value ∙ c.if-not-branch.false)
           (state_in c.cycle_power.new.self)
           (λ i. record {

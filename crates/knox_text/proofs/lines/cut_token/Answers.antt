@@ -1,5 +1,0 @@
-use Rattle.knox_text.proofs.Cutting.{not-empty, cut_token_is}
-use Rattle.knox_text.proofs.lines.cut_token.Goals as goal
-
-pub returns-clause-token : goal.returns-clause-token
-returns-clause-token c = cut_token_is c.args.line.now c.skip_blanks-start.result.now c.token_length-end.result c.skip_blanks-start.ensures (not-empty _ c.skip_blanks-start.result.now c.is_empty.ensures c.if-is_empty.false) c.token_length-end.ensures.value

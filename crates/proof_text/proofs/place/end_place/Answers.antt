@@ -1,7 +1,0 @@
-use Rattle.std.proofs.Common.{◌∙◌}
-use Rattle.proof_text.proofs.DimacsLemmas.{at-end}
-use Rattle.proof_text.proofs.place.end_place.Goals as goal
-
-pub returns : goal.returns
-returns c =
-    c.place.ensures.value ∙ at-end c.loop-cursor.cursor.at c.loop-cursor.cursor.rest c.peek.result c.is_some.result c.peek.ensures c.is_some.ensures c.loop-cursor-test.false ∙ c.loop-cursor.invariant
