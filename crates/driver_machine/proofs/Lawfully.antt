@@ -7,7 +7,7 @@ use Rattle.knox_words.proofs.Lists.{fits-width, fit-slice_set}
 use Rattle.knox_theory.specs.Design.{Config, Design}
 use Rattle.knox_theory.specs.Lawful.{IsDriver}
 use Rattle.knox_circuit.specs.declared.line.Line.{Line}
-use Rattle.knox_circuit.specs.Circuit.{cells_of, state_widths, input_widths}
+use Rattle.knox_circuit.specs.Circuit.{cells_of, state_widths, input_widths, output_widths}
 use Rattle.knox_lang.specs.declared.parts.OpHead.{OpHead}
 use Rattle.knox_lang.specs.declared.parts.Body.{Body}
 use Rattle.knox_lang.specs.declared.parts.DriverParts.{DriverParts}
@@ -20,7 +20,7 @@ use Rattle.knox_lang.proofs.OperationLemmas.{start-fit, ops_fit-at}
 use Rattle.driver_machine.specs.Drive.{first_run}
 use Rattle.driver_machine.specs.Left.{Left, on, run_of, step, step_ticks, start, start_body}
 use Rattle.driver_machine.specs.Moves.{parts_left, until_tick, move}
-use Rattle.driver_machine.specs.Fits.{seen_widths, items_fit, run_fits, left_fits, fits_body, fits_config, output_widths}
+use Rattle.driver_machine.specs.Fits.{seen_widths, items_fit, run_fits, left_fits, fits_body, fits_config}
 use Rattle.driver_machine.specs.Means.{means}
 use Rattle.driver_machine.specs.Lawful.{HasOp, HasDriver}
 use Rattle.driver_machine.proofs.Meaning.{start-means}

@@ -12,3 +12,4 @@ pub mod Placed
 pub mod Lawfully
 pub mod Computed
 pub mod Walked
+pub mod Meeting

@@ -1,7 +1,7 @@
 -- The moves of the example, part by part.
 use Rattle.std.proofs.Common.{◌≡◌, ℕ, suc, ◌+◌, ◌*◌, ◌==◌, map, List, [], ◌∷◌, ◌++◌, slice_set, Option, Some, Bool, true, false, if◌then◌else◌, ap, sym, ◌∙◌, arith}
 use Rattle.knox_words.specs.Bits.{Bits, bits}
-use Rattle.knox_words.specs.Lists.{Words}
+use Rattle.knox_words.specs.Lists.{Words, total}
 use Rattle.knox_words.specs.declared.op.Op1.TheVariants.{Not}
 use Rattle.knox_theory.specs.Device.{Replied}
 use Rattle.knox_circuit.specs.declared.line.Line.{Line}
@@ -18,7 +18,7 @@ use Rattle.knox_lang.specs.Eval.{Value, eval}
 use Rattle.driver_machine.specs.Sight.{Run, Setting, setting, sight}
 use Rattle.driver_machine.specs.Drive.{first_run}
 use Rattle.driver_machine.specs.Left.{Item, Does, Rest, Next, Went, Ticks, NoTurns, begun, next, test_of, next_tests, is_tick, config, arrived, on, start, reply}
-use Rattle.driver_machine.specs.Moves.{total, parts_level, stmt_parts, parts_left, until_tick, tests_until_tick, move, move_tests}
+use Rattle.driver_machine.specs.Moves.{parts_level, stmt_parts, parts_left, until_tick, tests_until_tick, move, move_tests}
 use Rattle.driver_machine.specs.Slow.{store, cells, name, driver, quick_body, waiting}
 use Rattle.driver_machine.proofs.Computed.{value-lit, value-name, value-not, constant, argument, shown, busy}
 

@@ -187,7 +187,7 @@ pub fn do_part(
     ensures err { OnErr result (scene.new ≡ scene.old) }
 {
     match settle(alloc, pos, body)? {
-        Stand::Over => Ok(Part::AtResult),
+        Stand::AtEnd => Ok(Part::AtResult),
         Stand::Statement => {
             let part = do_statement(alloc, c, body, funs, pos, scene)?;
             Ok(part)

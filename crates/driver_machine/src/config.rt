@@ -5,15 +5,16 @@ ghost use Rattle.knox_circuit.specs.Circuit.{cells_of};
 ghost use Rattle.knox_circuit.specs.States.{words_in};
 ghost use Rattle.knox_lang.specs.Operation.{start_of};
 ghost use Rattle.driver_machine.specs.Drive.{locals_of, result_of, stmts_of};
-ghost use Rattle.driver_machine.specs.Left.{start, step};
+ghost use Rattle.driver_machine.specs.Left.{start, step, step_tests, next_tests};
 ghost use Rattle.driver_machine.specs.Sight.{setting, result_value};
-ghost use Rattle.driver_machine.specs.Begins.{run_in};
+ghost use Rattle.driver_machine.specs.Begins.{run_in, listed};
 ghost use Rattle.driver_machine.specs.Configs.{config_of, moved_of, run_at, with_word, with_local, LowersParts, words_fit};
 ghost use Rattle.driver_machine.specs.Moves.{parts_left};
 ghost use Rattle.driver_machine.specs.Fits.{fits_config};
 ghost use Rattle.knox_words.specs.Lists.{fit};
 
 use crate::begin::do_part;
+use crate::met::next_test;
 use crate::part::Part;
 use crate::position::Position;
 use crate::reply::{Moved, Reply};
@@ -109,7 +110,7 @@ fn result_word(
 
 impl DriverConfig {
     /// The start of an operation's body on a state, with idle inputs and zero locals. Where the
-    /// driver has no such operation, the body is empty.
+    /// driver has no such operation, it is stuck there.
     pub fn start(
         alloc: Global,
         c: &Circuit,
@@ -127,6 +128,10 @@ impl DriverConfig {
         let locals = first_locals(alloc, body)?;
         let idle = parts.idle.copy(alloc)?;
         let args = Words::from_vec(Vec::from_slice(alloc, args)?);
+        let reply = match body {
+            Some(_) => None,
+            None => Some(Reply::Stuck),
+        };
         Ok(DriverConfig {
             op,
             position: Position::start(alloc),
@@ -136,7 +141,7 @@ impl DriverConfig {
                 state: s,
                 inputs: Inputs { words: idle },
             },
-            reply: None,
+            reply,
         })
     }
 
@@ -245,6 +250,50 @@ impl DriverConfig {
         }
         let moved = self.advance(alloc, c, d)?;
         Ok(moved)
+    }
+
+    /// The outcome of the test that the next step meets, also of a test that ends the body. `None`
+    /// exactly where it meets none. It leaves the configuration as it was.
+    pub fn next_test(
+        &mut self,
+        alloc: Global,
+        c: &Circuit,
+        d: &DriverProgram,
+    ) -> Result<Option<bool>, AllocError>
+        ensures tests { IfOk result (λ t. listed t ≡ step_tests c.now.lines d.now (config_of d.now self.old)) }
+        ensures same { self.new ≡ self.old }
+    {
+        if let Some(_) = self.reply {
+            return Ok(None);
+        }
+        let met = self.meet(alloc, c, d)?;
+        Ok(met)
+    }
+
+    /// The outcome of the test that the next part meets of a body that has not ended.
+    fn meet(
+        &mut self,
+        alloc: Global,
+        c: &Circuit,
+        d: &DriverProgram,
+    ) -> Result<Option<bool>, AllocError>
+        requires { self.old.reply ≡ None }
+        ensures tests { IfOk result (λ t. listed t ≡ step_tests c.now.lines d.now (config_of d.now self.old)) }
+        ensures same { self.new ≡ self.old }
+    {
+        let parts = d.parts();
+        let funs = parts.funs.as_slice();
+        let body = sqlite_items::at(parts.bodies.as_slice(), self.op as usize);
+        let mut position = self.position.copy(alloc)?;
+        let met = next_test(
+            alloc,
+            c,
+            body_stmts(body),
+            funs,
+            &mut position,
+            &mut self.scene,
+        )?;
+        Ok(met)
     }
 
     /// Does the next part of a body that has not ended.

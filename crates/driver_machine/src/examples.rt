@@ -4,11 +4,10 @@ ghost use Rattle.std.specs.Prelude.{◌≡◌, [], ◌∷◌, true, false};
 ghost use Rattle.knox_words.specs.Bits.{bits};
 ghost use Rattle.knox_theory.specs.Device.{Replied, OutOfTurns};
 ghost use Rattle.knox_lang.specs.Fitting.{fits_driver};
-ghost use Rattle.knox_circuit.specs.Circuit.{input_widths};
+ghost use Rattle.knox_circuit.specs.Circuit.{input_widths, output_widths};
 ghost use Rattle.driver_machine.specs.Drive.{drive};
 ghost use Rattle.driver_machine.specs.Left.{Over, start, ended, reply};
 ghost use Rattle.driver_machine.specs.Moves.{move, move_tests};
-ghost use Rattle.driver_machine.specs.Fits.{output_widths};
 ghost use Rattle.driver_machine.specs.Slow.{store, cells, driver, waiting};
 
 /// A driver that may not wait is out of turns at once, and its tick before that stays done. One that
@@ -20,7 +19,7 @@ pub fn bodies_reply()
     ensures right { drive store (driver 1) 1 (bits 4 9 ∷ []) (cells 9 0 0) ≡ (Replied (bits 1 1), cells 9 0 0) }
     ensures wrong { drive store (driver 1) 1 (bits 4 3 ∷ []) (cells 9 0 0) ≡ (Replied (bits 1 0), cells 9 0 0) }
     ensures early { drive store (driver 5) 1 (bits 4 9 ∷ []) (cells 9 0 0) ≡ (Replied (bits 1 1), cells 9 0 0) }
-    ensures no_body { drive store (driver 1) 7 [] (cells 9 0 0) ≡ (Replied (bits 1 0), cells 9 0 0) }
+    ensures no_body { drive store (driver 1) 7 [] (cells 9 0 0) ≡ (OutOfTurns, cells 9 0 0) }
 {}
 
 /// A move goes directly behind the next tick. A body with nothing but its result left has not ended
