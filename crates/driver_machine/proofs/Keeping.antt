@@ -1,8 +1,8 @@
 -- A step keeps what is left in order: it obeys the rules, and all words have their widths.
-use Rattle.std.proofs.Common.{◌≡◌, ℕ, zero, suc, ◌+◌, ◌≤◌, ◌&&◌, nat_lt, nat_le, List, [], ◌∷◌, ◌++◌, map, length, slice_get, slice_index, slice_set, eqb-true, Option, Some, None, Bool, true, false, if◌then◌else◌, refl, sym, ◌∙◌, ap, subst, arith}
-use Rattle.knox_words.specs.Bits.{Bits, word_or}
+use Rattle.std.proofs.Common.{◌≡◌, ℕ, zero, suc, ◌+◌, ◌&&◌, nat_le, List, [], ◌∷◌, ◌++◌, map, length, slice_get, slice_index, slice_set, eqb-true, Option, Some, None, Bool, true, false, if◌then◌else◌, refl, sym, ◌∙◌, ap, subst, arith}
+use Rattle.knox_words.specs.Bits.{Bits}
 use Rattle.knox_words.specs.Lists.{Words, fit, fits}
-use Rattle.knox_words.proofs.Lists.{fit-slice_set, fits-width}
+use Rattle.knox_words.proofs.Lists.{fit-slice_set}
 use Rattle.knox_theory.specs.Design.{Config}
 use Rattle.knox_circuit.specs.declared.line.Line.{Line}
 use Rattle.knox_circuit.specs.Circuit.{cells_of, state_widths, input_widths, output_words, state_after_tick}
@@ -19,17 +19,14 @@ use Rattle.knox_lang.specs.declared.scope.Spaces.{Spaces}
 use Rattle.knox_lang.specs.Scope.{put_in, scope}
 use Rattle.knox_lang.specs.Exec.{Does, does, stmt_level}
 use Rattle.knox_lang.specs.Operation.{no_queries, arg_widths}
-use Rattle.knox_lang.specs.Typing.{Widths, Leave, Obeys, width_of, is_width, turns_fit, input_fits, all_obey, obeys_under, stmt_fits_level, stmt_fits, stmts_fit, SpacesFit, FunsGive, AnswersFit}
+use Rattle.knox_lang.specs.Typing.{Widths, Obeys, width_of, is_width, turns_fit, input_fits, obeys_under, stmt_fits_level, stmts_fit, SpacesFit, FunsGive, AnswersFit}
 use Rattle.knox_lang.specs.WellFormed.{word_widths, local_widths, driver_leave, result_fits}
-use Rattle.knox_lang.proofs.WidthLemmas.{and_first, and_second, is_width-true, get-some, bound-fits, Turns, turns_fit-true, turn-fits, eval-has}
+use Rattle.knox_lang.proofs.WidthLemmas.{and_first, and_second, is_width-true, get-some, turns_fit-true, eval-has}
 use Rattle.knox_lang.proofs.StmtLemmas.{stmts-keep}
 use Rattle.driver_machine.specs.Sight.{Run, Setting, setting, sight, value, holds, result_value, set_local}
 use Rattle.driver_machine.specs.Left.{Item, Does as Statement, Again, Left, Rest, Over, on, turns_from, Next, Went, Ticks, NoTurns, AtResult, next_turn, begun, next, arrived, run_of, step_in, step}
+use Rattle.driver_machine.proofs.Items.{both, inner-obey, obeys, append-fits, on-fits, turns-fit}
 use Rattle.driver_machine.specs.Fits.{seen_widths, item_fits, items_fit, left_fits, run_fits}
-
-pub both : (a b : Bool) → a ≡ true → b ≡ true → a && b ≡ true
-both true b e f = f
-both false b e f = cc
 
 -- the locals that an assignment leaves are those of the spaces after it
 local-put : (sp : Spaces) (s : Space) (k : ℕ) (w : Bits) → set_local s k w sp.local ≡ (put_in sp s k w).local
@@ -45,17 +42,6 @@ local-put sp Device k w = refl
 local-put sp Emu k w = refl
 local-put sp Copy k w = refl
 local-put sp Taken k w = refl
-
-widths-append : (as' bs : Words) → word_widths (as' ++ bs) ≡ word_widths as' ++ word_widths bs
-widths-append [] bs = refl
-widths-append (a ∷ as') bs = ap (λ (ws : List ℕ). a.width ∷ ws) (widths-append as' bs)
-
-inner-obey : (os : List Obeys) (vs : List ℕ) (w : ℕ) → obeys_under os vs w ≡ true → all_obey os (vs ++ w ∷ []) ≡ true
-inner-obey os vs w e = by_test (nat_lt (length vs) 256) e
-  where
-    by_test : (t : Bool) → (if t then all_obey os (vs ++ w ∷ []) else false) ≡ true → all_obey os (vs ++ w ∷ []) ≡ true
-    by_test true e = e
-    by_test false e = cc
 
 -- what a circuit owes: the widths of its outputs and of its cells after a tick
 pub record KeepsWidths (lines : List Line) (outs : List ℕ) : Type 0 where
@@ -86,14 +72,8 @@ module _ (lines : List Line) (d : DriverParts) (h : OpHead) (b : Body) (args : W
   abbrev ws : Widths
   ws = seen_widths d h b
 
-  abbrev leave : Leave
-  leave = driver_leave d
-
   abbrev g : Setting
   g = setting lines d.funs args
-
-  abbrev obeys : Stmt → Obeys
-  obeys s = stmt_fits d.funs ws leave s
 
   sights : (run : Run) → RunFits lines b run → SpacesFit ws (sight g run)
   sights run r Arg = args_fit
@@ -103,31 +83,6 @@ module _ (lines : List Line) (d : DriverParts) (h : OpHead) (b : Body) (args : W
 
   value-fits : (run : Run) (bound : Words) (vs : List ℕ) (e : Expr) (w : ℕ) → RunFits lines b run → fit vs bound ≡ true → width_of d.funs (length d.funs) ws e vs ≡ Some w → fits w (value g run bound e) ≡ true
   value-fits run bound vs e w r f is = eval-has d.funs (length d.funs) ws give e vs (scope (sight g run) bound) (sights run r) f w is
-
-  append-fits : (xs ys : List Item) → items_fit d ws xs ≡ true → items_fit d ws ys ≡ true → items_fit d ws (xs ++ ys) ≡ true
-  append-fits [] ys e f = f
-  append-fits (x ∷ xs) ys e f =
-      both (item_fits d ws x) (items_fit d ws (xs ++ ys)) (and_first (item_fits d ws x) (items_fit d ws xs) e) (append-fits xs ys (and_second (item_fits d ws x) (items_fit d ws xs) e) f)
-
-  pub on-fits : (bound : Words) (ss : List Stmt) → fit (word_widths bound) bound ≡ true → stmts_fit d.funs ws leave ss (word_widths bound) ≡ true → items_fit d ws (on bound ss) ≡ true
-  on-fits bound [] f e = refl
-  on-fits bound (s ∷ ss) f e =
-      let one = and_first (obeys s (word_widths bound)) (stmts_fit d.funs ws leave ss (word_widths bound)) e in
-      let more = and_second (obeys s (word_widths bound)) (stmts_fit d.funs ws leave ss (word_widths bound)) e in
-      both (item_fits d ws (Statement s bound)) (items_fit d ws (on bound ss)) (both (fit (word_widths bound) bound) (obeys s (word_widths bound)) f one) (on-fits bound ss f more)
-
-  turns-fit : (w n : ℕ) (body : List Stmt) (bound : Words) (k m : ℕ) → Turns w n → k + m ≤ n → fit (word_widths bound) bound ≡ true → stmts_fit d.funs ws leave body (word_widths bound ++ w ∷ []) ≡ true →
-      items_fit d ws (turns_from w body bound k m) ≡ true
-  turns-fit w n body bound k zero t le f e = refl
-  turns-fit w n body bound k (suc m) t le f e =
-      let word = turn-fits w n k t (omega arith) in
-      let widths : word_widths (bound ++ word_or w k ∷ []) ≡ word_widths bound ++ w ∷ [] =
-      widths-append bound (word_or w k ∷ []) ∙ ap (λ (v : ℕ). word_widths bound ++ v ∷ []) (fits-width w (word_or w k) word) in
-      append-fits (on (bound ++ word_or w k ∷ []) body) (turns_from w body bound (k + 1) m)
-      (on-fits (bound ++ word_or w k ∷ []) body
-      (subst (λ (vs : List ℕ). fit vs (bound ++ word_or w k ∷ []) ≡ true) (sym widths) (bound-fits (word_widths bound) bound w (word_or w k) f word))
-      (subst (λ (vs : List ℕ). stmts_fit d.funs ws leave body vs ≡ true) (sym widths) e))
-      (turns-fit w n body bound (k + 1) m t (omega arith) f e)
 
   -- where the next part leads is in order
   abbrev NextFits : Next → Type 0
@@ -141,9 +96,9 @@ module _ (lines : List Line) (d : DriverParts) (h : OpHead) (b : Body) (args : W
       NextFits (if t then Went (on bound body ++ Again e n body bound ∷ rest) run else Went rest run)
   loop-fits true e n body bound rest run i f r =
       let test = is_width (width_of d.funs (length d.funs) ws e (word_widths bound)) 1 in
-      let inner = stmts_fit d.funs ws leave body (word_widths bound) in
+      let inner = stmts_fit d.funs ws (driver_leave d) body (word_widths bound) in
       let words = and_first (fit (word_widths bound) bound) (test && inner) i in (
-        append-fits (on bound body) (Again e n body bound ∷ rest) (on-fits bound body words (and_second test inner (and_second (fit (word_widths bound) bound) (test && inner) i)))
+        append-fits d ws (on bound body) (Again e n body bound ∷ rest) (on-fits d ws bound body words (and_second test inner (and_second (fit (word_widths bound) bound) (test && inner) i)))
             (both (item_fits d ws (Again e n body bound)) (items_fit d ws rest) i f),
         r,
       )
@@ -159,10 +114,10 @@ module _ (lines : List Line) (d : DriverParts) (h : OpHead) (b : Body) (args : W
   turn-next e (suc n) body bound rest run i f r = loop-fits (holds g run bound e) e n body bound rest run i f r
 
   chosen-fits : (t : Bool) (as' bs : List Stmt) (bound : Words) (rest : List Item) → fit (word_widths bound) bound ≡ true →
-      stmts_fit d.funs ws leave as' (word_widths bound) ≡ true → stmts_fit d.funs ws leave bs (word_widths bound) ≡ true → items_fit d ws rest ≡ true →
+      stmts_fit d.funs ws (driver_leave d) as' (word_widths bound) ≡ true → stmts_fit d.funs ws (driver_leave d) bs (word_widths bound) ≡ true → items_fit d ws rest ≡ true →
       items_fit d ws (on bound (if t then as' else bs) ++ rest) ≡ true
-  chosen-fits true as' bs bound rest w a c f = append-fits (on bound as') rest (on-fits bound as' w a) f
-  chosen-fits false as' bs bound rest w a c f = append-fits (on bound bs) rest (on-fits bound bs w c) f
+  chosen-fits true as' bs bound rest w a c f = append-fits d ws (on bound as') rest (on-fits d ws bound as' w a) f
+  chosen-fits false as' bs bound rest w a c f = append-fits d ws (on bound bs) rest (on-fits d ws bound bs w c) f
 
   abbrev Good : Unit {0} → Type 0
   Good a = Unit {0}
@@ -174,14 +129,14 @@ module _ (lines : List Line) (d : DriverParts) (h : OpHead) (b : Body) (args : W
       none k x e = cc
 
   -- the words after a statement that changes spaces alone
-  after-fits : (s : Stmt) (bound : Words) (run : Run) → fit (word_widths bound) bound ≡ true → obeys s (word_widths bound) ≡ true → RunFits lines b run →
+  after-fits : (s : Stmt) (bound : Words) (run : Run) → fit (word_widths bound) bound ≡ true → obeys d ws s (word_widths bound) ≡ true → RunFits lines b run →
       SpacesFit ws (does (Unit {0}) g.calls no_queries s (sight g run, tt) bound).0
   after-fits s bound run w e r =
-      (stmts-keep (Unit {0}) no_queries d.funs ws leave Good give no-answers (s ∷ []) (word_widths bound) bound (sight g run, tt) w (both (obeys s (word_widths bound)) true e refl)
+      (stmts-keep (Unit {0}) no_queries d.funs ws (driver_leave d) Good give no-answers (s ∷ []) (word_widths bound) bound (sight g run, tt) w (both (obeys d ws s (word_widths bound)) true e refl)
       (record { spaces = sights run r; asked = tt })).spaces
 
   put-fits : (s : Stmt) (y : Stmt-F Stmt) (bound : Words) (run : Run) (x : Slot) (k : ℕ) (v : Bits) → out-Stmt s ≡ y →
-      fit (word_widths bound) bound ≡ true → obeys s (word_widths bound) ≡ true → RunFits lines b run →
+      fit (word_widths bound) bound ≡ true → obeys d ws s (word_widths bound) ≡ true → RunFits lines b run →
       stmt_level (Unit {0}) g.calls no_queries (map-Stmt Stmt (Does (Unit {0})) (does (Unit {0}) g.calls no_queries) y) (sight g run, tt) bound ≡ (put_in (sight g run) x.space k v, tt) →
       fit (local_widths b) (set_local x.space k v run.locals) ≡ true
   put-fits s y bound run x k v is w e r same =
@@ -192,20 +147,20 @@ module _ (lines : List Line) (d : DriverParts) (h : OpHead) (b : Body) (args : W
       let there : SpacesFit ws (put_in (sight g run) x.space k v) = subst (λ (st : Spaces × (Unit {0})). SpacesFit ws st.0) done all in
       subst (λ (l : Words). fit (local_widths b) l ≡ true) (sym (local-put (sight g run) x.space k v)) (there Local)
 
-  set-fits : (k : ℕ) (e : Expr) (bound : Words) (run : Run) (o p : Option ℕ) → slice_get leave.inputs k ≡ o → width_of d.funs (length d.funs) ws e (word_widths bound) ≡ p →
+  set-fits : (k : ℕ) (e : Expr) (bound : Words) (run : Run) (o p : Option ℕ) → slice_get (driver_leave d).inputs k ≡ o → width_of d.funs (length d.funs) ws e (word_widths bound) ≡ p →
       fit (word_widths bound) bound ≡ true → input_fits o p ≡ true → RunFits lines b run → fit (input_widths lines) (slice_set run.inputs k (value g run bound e)) ≡ true
   set-fits k e bound run None None is at w h r = cc
   set-fits k e bound run None (Some v) is at w h r = cc
   set-fits k e bound run (Some u) None is at w h r = cc
   set-fits k e bound run (Some u) (Some v) is at w h r =
       let same : u ≡ v = eqb-true u v h in
-      let got = get-some leave.inputs k u is in
+      let got = get-some (driver_leave d).inputs k u is in
       let width : slice_index (input_widths lines) k ≡ v = ap (λ (x : List ℕ). slice_index x k) (sym ins) ∙ (got.1 ∙ same) in
       fit-slice_set (input_widths lines) run.inputs k (value g run bound e)
       (subst (λ (x : ℕ). fits x (value g run bound e) ≡ true) (sym width) (value-fits run bound (word_widths bound) e v r w at)) r.inputs
 
-  arm : (s : Stmt) (y : Stmt-F Stmt) (bound : Words) (rest : List Item) (run : Run) → out-Stmt s ≡ y → fit (word_widths bound) bound ≡ true → obeys s (word_widths bound) ≡ true →
-      stmt_fits_level d.funs ws leave (map-Stmt Stmt Obeys obeys y) (word_widths bound) ≡ true → items_fit d ws rest ≡ true → RunFits lines b run → NextFits (begun g y bound rest run)
+  arm : (s : Stmt) (y : Stmt-F Stmt) (bound : Words) (rest : List Item) (run : Run) → out-Stmt s ≡ y → fit (word_widths bound) bound ≡ true → obeys d ws s (word_widths bound) ≡ true →
+      stmt_fits_level d.funs ws (driver_leave d) (map-Stmt Stmt Obeys (obeys d ws) y) (word_widths bound) ≡ true → items_fit d ws rest ≡ true → RunFits lines b run → NextFits (begun g y bound rest run)
   arm s (Stmt-F.Assign x e) bound rest run is w all ok f r =
       let at : x.number + 0 ≡ x.number = omega arith in
       let v = value g run bound e in
@@ -216,23 +171,23 @@ module _ (lines : List Line) (d : DriverParts) (h : OpHead) (b : Body) (args : W
       (f, record { cells = r.cells; inputs = r.inputs; locals = locals })
   arm s (Stmt-F.If c as' bs) bound rest run is w all ok f r =
       let vs = word_widths bound in
-      let yes = stmts_fit d.funs ws leave as' vs in
-      let not = stmts_fit d.funs ws leave bs vs in
+      let yes = stmts_fit d.funs ws (driver_leave d) as' vs in
+      let not = stmts_fit d.funs ws (driver_leave d) bs vs in
       let both_fit = and_second (is_width (width_of d.funs (length d.funs) ws c vs) 1) (yes && not) ok in
       (chosen-fits (holds g run bound c) as' bs bound rest w (and_first yes not both_fit) (and_second yes not both_fit) f, r)
   arm s (Stmt-F.For v n body) bound rest run is w all ok f r =
-      let os : List Obeys = map obeys body in
+      let os : List Obeys = map (obeys d ws) body in
       let t = turns_fit-true v n (and_first (turns_fit v n) (obeys_under os (word_widths bound) v) ok) in
       let inner = inner-obey os (word_widths bound) v (and_second (turns_fit v n) (obeys_under os (word_widths bound) v) ok) in
-      (append-fits (turns_from v body bound 0 n) rest (turns-fit v n body bound 0 n t (omega arith) w inner) f, r)
+      (append-fits d ws (turns_from v body bound 0 n) rest (turns-fit d ws v n body bound 0 n t (omega arith) w inner) f, r)
   arm s (Stmt-F.While c n body) bound rest run is w all ok f r =
       let vs = word_widths bound in
       let test = is_width (width_of d.funs (length d.funs) ws c vs) 1 in
-      let inner = stmts_fit d.funs ws leave body vs in
+      let inner = stmts_fit d.funs ws (driver_leave d) body vs in
       let more = and_second test (nat_le n 1000000 && inner) ok in
       turn-next c n body bound rest run (both (fit vs bound) (test && inner) w (both test inner (and_first test (nat_le n 1000000 && inner) ok) (and_second (nat_le n 1000000) inner more))) f r
   arm s (Stmt-F.SetInput k e) bound rest run is w all ok f r =
-      (f, record { cells = r.cells; inputs = set-fits k e bound run (slice_get leave.inputs k) (width_of d.funs (length d.funs) ws e (word_widths bound)) refl refl w ok r; locals = r.locals })
+      (f, record { cells = r.cells; inputs = set-fits k e bound run (slice_get (driver_leave d).inputs k) (width_of d.funs (length d.funs) ws e (word_widths bound)) refl refl w ok r; locals = r.locals })
   arm s Stmt-F.Tick bound rest run is w all ok f r = (f, record { cells = keeps.ticks run.cells run.inputs r.cells r.inputs; inputs = r.inputs; locals = r.locals })
   arm s Stmt-F.CopyTick bound rest run is w all ok f r = (f, r)
   arm s (Stmt-F.Query x k es) bound rest run is w all ok f r = (f, r)
@@ -241,9 +196,9 @@ module _ (lines : List Line) (d : DriverParts) (h : OpHead) (b : Body) (args : W
   next-fits [] run f r = tt
   next-fits (Statement s bound ∷ rest) run f r =
       let i = and_first (item_fits d ws (Statement s bound)) (items_fit d ws rest) f in
-      let w = and_first (fit (word_widths bound) bound) (obeys s (word_widths bound)) i in
-      let all = and_second (fit (word_widths bound) bound) (obeys s (word_widths bound)) i in
-      let level = ap (λ (o : Obeys). o (word_widths bound)) (sym (fold_out-Stmt Obeys (stmt_fits_level d.funs ws leave) s)) ∙ all in
+      let w = and_first (fit (word_widths bound) bound) (obeys d ws s (word_widths bound)) i in
+      let all = and_second (fit (word_widths bound) bound) (obeys d ws s (word_widths bound)) i in
+      let level = ap (λ (o : Obeys). o (word_widths bound)) (sym (fold_out-Stmt Obeys (stmt_fits_level d.funs ws (driver_leave d)) s)) ∙ all in
       arm s (out-Stmt s) bound rest run refl w all level (and_second (item_fits d ws (Statement s bound)) (items_fit d ws rest) f) r
   next-fits (Again e n body bound ∷ rest) run f r =
       turn-next e n body bound rest run (and_first (item_fits d ws (Again e n body bound)) (items_fit d ws rest) f) (and_second (item_fits d ws (Again e n body bound)) (items_fit d ws rest) f) r

@@ -1,12 +1,13 @@
 -- A design with this driver obeys the laws of drivers.
-use Rattle.std.proofs.Common.{◌≡◌, ℕ, zero, suc, ◌==◌, ◌&&◌, List, [], ◌∷◌, length, slice_get, Option, Some, None, Bool, true, false, if◌then◌else◌, refl, sym, ◌∙◌, ap, subst}
+use Rattle.std.proofs.Common.{◌≡◌, ℕ, zero, suc, ◌==◌, ◌&&◌, List, [], ◌∷◌, length, slice_get, slice_index, slice_set, Option, Some, None, Bool, true, false, if◌then◌else◌, refl, sym, ◌∙◌, ap, subst}
 use Rattle.std.specs.Cmp.Lexicographic.{pointwise, same_text}
+use Rattle.knox_words.specs.Bits.{Bits}
 use Rattle.knox_words.specs.Lists.{Words, fit, fits, are_widths}
-use Rattle.knox_words.proofs.Lists.{fits-width}
+use Rattle.knox_words.proofs.Lists.{fits-width, fit-slice_set}
 use Rattle.knox_theory.specs.Design.{Config, Design}
 use Rattle.knox_theory.specs.Lawful.{IsDriver}
 use Rattle.knox_circuit.specs.declared.line.Line.{Line}
-use Rattle.knox_circuit.specs.Circuit.{cells_of, state_widths, input_widths}
+use Rattle.knox_circuit.specs.Circuit.{cells_of, state_widths, input_widths, output_widths}
 use Rattle.knox_lang.specs.declared.parts.OpHead.{OpHead}
 use Rattle.knox_lang.specs.declared.parts.Body.{Body}
 use Rattle.knox_lang.specs.declared.parts.DriverParts.{DriverParts}
@@ -19,12 +20,13 @@ use Rattle.knox_lang.proofs.OperationLemmas.{start-fit, ops_fit-at}
 use Rattle.driver_machine.specs.Drive.{first_run}
 use Rattle.driver_machine.specs.Left.{Left, on, run_of, step, step_ticks, start, start_body}
 use Rattle.driver_machine.specs.Moves.{parts_left, until_tick, move}
-use Rattle.driver_machine.specs.Fits.{seen_widths, items_fit, run_fits, left_fits, fits_body, fits_config, output_widths}
+use Rattle.driver_machine.specs.Fits.{seen_widths, items_fit, run_fits, left_fits, fits_body, fits_config}
 use Rattle.driver_machine.specs.Means.{means}
 use Rattle.driver_machine.specs.Lawful.{HasOp, HasDriver}
 use Rattle.driver_machine.proofs.Meaning.{start-means}
 use Rattle.driver_machine.proofs.Moving.{ended-move, ended-tests, finish-over, finish-means}
-use Rattle.driver_machine.proofs.Keeping.{both, KeepsWidths, run_fits-parts, run_fits-all, on-fits, body-step}
+use Rattle.driver_machine.proofs.Keeping.{KeepsWidths, run_fits-parts, run_fits-all, body-step}
+use Rattle.driver_machine.proofs.Items.{both, on-fits}
 
 widths-of : (ws : List ℕ) (as' : Words) → fit ws as' ≡ true → word_widths as' ≡ ws
 widths-of [] [] h = refl
@@ -60,6 +62,39 @@ known lines d ok fit_it keeps =
       idle = idle;
       bodies = and_second funs bodies rest;
     }
+
+module _ (lines : List Line) (d : DriverParts) where
+  options-word : (o : Option OpHead) (p : Option Body) (c : Config Left) (j : ℕ) (w : Bits) → fits (slice_index (state_widths (cells_of lines)) j) w ≡ true → fits_body lines d o p c ≡ true →
+      fits_body lines d o p (record c { cells = slice_set c.cells j w }) ≡ true
+  options-word None p c j w f e = cc
+  options-word (Some h) None c j w f e = cc
+  options-word (Some h) (Some b) c j w f e =
+      let r = run_fits-parts lines b (run_of c) (and_first (run_fits lines b (run_of c)) (left_fits d h b c.left) e) in
+      let c' : Config Left = record c { cells = slice_set c.cells j w } in
+      both (run_fits lines b (run_of c')) (left_fits d h b c.left)
+      (run_fits-all lines b (run_of c') (record { cells = fit-slice_set (state_widths (cells_of lines)) c.cells j w f r.cells; inputs = r.inputs; locals = r.locals }))
+      (and_second (run_fits lines b (run_of c)) (left_fits d h b c.left) e)
+
+  options-local : (o : Option OpHead) (p : Option Body) (c : Config Left) (b : Body) (j : ℕ) (w : Bits) → p ≡ Some b → fits (slice_index (local_widths b) j) w ≡ true → fits_body lines d o p c ≡ true →
+      fits_body lines d o p (record c { locals = slice_set c.locals j w }) ≡ true
+  options-local None p c b j w is f e = cc
+  options-local (Some h) None c b j w is f e = cc
+  options-local (Some h) (Some b') c b j w is f e =
+      let same : b' ≡ b = cc in
+      let f' : fits (slice_index (local_widths b') j) w ≡ true = subst (λ (x : Body). fits (slice_index (local_widths x) j) w ≡ true) (sym same) f in
+      let r = run_fits-parts lines b' (run_of c) (and_first (run_fits lines b' (run_of c)) (left_fits d h b' c.left) e) in
+      let c' : Config Left = record c { locals = slice_set c.locals j w } in
+      both (run_fits lines b' (run_of c')) (left_fits d h b' c.left)
+      (run_fits-all lines b' (run_of c') (record { cells = r.cells; inputs = r.inputs; locals = fit-slice_set (local_widths b') c.locals j w f' r.locals }))
+      (and_second (run_fits lines b' (run_of c)) (left_fits d h b' c.left) e)
+
+  pub word-fits : (op : ℕ) (c : Config Left) (j : ℕ) (w : Bits) → fits (slice_index (state_widths (cells_of lines)) j) w ≡ true → fits_config lines d op c ≡ true →
+      fits_config lines d op (record c { cells = slice_set c.cells j w }) ≡ true
+  word-fits op c j w f e = options-word (slice_get d.ops op) (slice_get d.bodies op) c j w f e
+
+  pub local-fits : (op : ℕ) (c : Config Left) (b : Body) (j : ℕ) (w : Bits) → slice_get d.bodies op ≡ Some b → fits (slice_index (local_widths b) j) w ≡ true → fits_config lines d op c ≡ true →
+      fits_config lines d op (record c { locals = slice_set c.locals j w }) ≡ true
+  local-fits op c b j w is f e = options-local (slice_get d.ops op) (slice_get d.bodies op) c b j w is f e
 
 module _ (lines : List Line) (d : DriverParts) (k : Known lines d) where
   options-step : (o : Option OpHead) (p : Option Body) (c : Config Left) → fits_body lines d o p c ≡ true → fits_body lines d o p (step lines d c) ≡ true
@@ -100,7 +135,7 @@ module _ (lines : List Line) (d : DriverParts) (k : Known lines d) where
       let rest = and_second (are_widths (arg_widths h)) (stmts && result) ok in
       let body = and_first stmts result rest in
       let locals = start-fit b.locals (and_first (are_widths (local_widths b)) (stmts_fit d.funs ws (driver_leave d) b.stmts []) body) in
-      let items = on-fits lines d h b args k.give k.keeps k.ins fa [] b.stmts refl (and_second (are_widths (local_widths b)) (stmts_fit d.funs ws (driver_leave d) b.stmts []) body) in
+      let items = on-fits d ws [] b.stmts refl (and_second (are_widths (local_widths b)) (stmts_fit d.funs ws (driver_leave d) b.stmts []) body) in
       let more = result && items_fit d ws (on [] b.stmts) in
       both (run_fits lines b (first_run d (Some b) cells)) (fit (arg_widths h) args && more)
       (run_fits-all lines b (first_run d (Some b) cells) (record { cells = fc; inputs = k.idle; locals = locals }))

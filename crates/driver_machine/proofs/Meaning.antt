@@ -1,5 +1,5 @@
 -- What is left of a body means the same before each part and after it.
-use Rattle.std.proofs.Common.{◌≡◌, ℕ, zero, suc, ◌+◌, List, [], ◌∷◌, ◌++◌, slice_get, Option, Bool, true, false, if◌then◌else◌, refl, sym, ◌∙◌, ap}
+use Rattle.std.proofs.Common.{◌≡◌, ℕ, zero, suc, ◌+◌, List, [], ◌∷◌, ◌++◌, slice_get, Option, Some, None, Bool, true, false, if◌then◌else◌, refl, sym, ◌∙◌, ap}
 use Rattle.knox_words.specs.Bits.{word_or}
 use Rattle.knox_words.specs.Lists.{Words}
 use Rattle.knox_theory.specs.Design.{Config}
@@ -7,11 +7,12 @@ use Rattle.knox_circuit.specs.declared.line.Line.{Line}
 use Rattle.knox_lang.specs.declared.expr.Expr.{Expr}
 use Rattle.knox_lang.specs.declared.expr.Stmt.{Stmt, out-Stmt, fold_out-Stmt, map-Stmt}
 use Rattle.knox_lang.specs.declared.expr.Stmt.TheOpen.{Stmt-F}
+use Rattle.knox_lang.specs.declared.parts.Body.{Body}
 use Rattle.knox_lang.specs.declared.parts.DriverParts.{DriverParts}
 use Rattle.driver_machine.specs.Sight.{Run, Setting, setting, holds}
-use Rattle.driver_machine.specs.Drive.{Outcome, GoesOn, Stops, Action, then_does, turns, loops, drive_level, drives, drives_all, replied, stmts_of, result_of, first_run, drive}
+use Rattle.driver_machine.specs.Drive.{Outcome, GoesOn, Stops, Action, then_does, turns, loops, drive_level, drives, drives_all, replied, first_run, drive_body, drive}
 use Rattle.driver_machine.specs.Means.{go_on, item_does, items_do, means_in, means}
-use Rattle.driver_machine.specs.Left.{Item, Does, Again, Left, Rest, Over, on, turns_from, Next, Went, Ticks, NoTurns, AtResult, next_turn, begun, next, arrived, run_of, step, start}
+use Rattle.driver_machine.specs.Left.{Item, Does, Again, Left, Rest, Over, on, turns_from, Next, Went, Ticks, NoTurns, AtResult, next_turn, begun, next, arrived, run_of, step, start_body, start}
 
 assoc : (o : Outcome) (f k h : Run → Outcome) → ((r : Run) → k r ≡ go_on (f r) h) → go_on o k ≡ go_on (go_on o f) h
 assoc (GoesOn run) f k h e = e run
@@ -114,8 +115,10 @@ step-in lines d (Rest items args result) run =
 pub step-means : (lines : List Line) (d : DriverParts) (c : Config Left) → means lines d (step lines d c) ≡ means lines d c
 step-means lines d c = step-in lines d c.left (run_of c)
 
+body-means : (lines : List Line) (d : DriverParts) (b : Option Body) (args cells : Words) → means lines d (start_body d b args cells) ≡ drive_body lines d b args cells
+body-means lines d None args cells = refl
+body-means lines d (Some b) args cells = ap (replied (setting lines d.funs args) b.result) (do-on (setting lines d.funs args) [] b.stmts (first_run d (Some b) cells))
+
 -- a body means what its start means
 pub start-means : (lines : List Line) (d : DriverParts) (op : ℕ) (args cells : Words) → means lines d (start d op args cells) ≡ drive lines d op args cells
-start-means lines d op args cells =
-    let b = slice_get d.bodies op in
-    ap (replied (setting lines d.funs args) (result_of b)) (do-on (setting lines d.funs args) [] (stmts_of b) (first_run d b cells))
+start-means lines d op args cells = body-means lines d (slice_get d.bodies op) args cells

@@ -1,12 +1,12 @@
 -- The moves from a place of a body to its end come to what the place means.
-use Rattle.std.proofs.Common.{◌≡◌, ℕ, zero, suc, ◌-◌, ◌≤◌, List, [], Bool, true, false, if◌then◌else◌, refl, sym, ◌∙◌, ap, subst, arith}
+use Rattle.std.proofs.Common.{◌≡◌, ℕ, zero, suc, ◌-◌, ◌≤◌, List, [], ◌++◌, ◌||◌, Bool, true, false, if◌then◌else◌, refl, sym, ◌∙◌, ap, subst, arith}
 use Rattle.knox_words.specs.Lists.{Words}
 use Rattle.knox_theory.specs.Device.{Reply}
 use Rattle.knox_theory.specs.Design.{Config, Design, go, finish}
 use Rattle.knox_circuit.specs.declared.line.Line.{Line}
 use Rattle.knox_lang.specs.declared.parts.DriverParts.{DriverParts}
-use Rattle.driver_machine.specs.Left.{Left, Rest, Over, step, step_ticks, is_over, ended, reply}
-use Rattle.driver_machine.specs.Moves.{parts_left, until_tick, move, move_tests}
+use Rattle.driver_machine.specs.Left.{Left, Rest, Over, step, step_ticks, step_tests, is_over, ended, reply}
+use Rattle.driver_machine.specs.Moves.{IsMove, steps, steps_tests, has_tick, has_early_tick, parts_left, until_tick, tests_until_tick, move, move_tests}
 use Rattle.driver_machine.specs.Means.{means}
 use Rattle.driver_machine.specs.Lawful.{HasDriver}
 use Rattle.driver_machine.proofs.Meaning.{step-means}
@@ -74,6 +74,51 @@ module _ (lines : List Line) (d : DriverParts) where
 
   pub ended-tests : (c : Config Left) → ended c ≡ true → move_tests lines d c ≡ []
   ended-tests c h = over-tests c.left c.cells c.inputs c.locals h
+
+  -- a move of at most m parts, part by part
+  record Parted (m : ℕ) (c : Config Left) : Type 0 where
+    parts : ℕ
+    place : until_tick lines d m c ≡ steps lines d parts c
+    tests : tests_until_tick lines d m c ≡ steps_tests lines d parts c
+    early : has_early_tick lines d parts c ≡ false
+    last : has_tick lines d parts c || ended (steps lines d parts c) ≡ true
+
+  ticked-parted : (m : ℕ) (c : Config Left) → step_ticks lines d c ≡ true → Parted (suc m) c
+  ticked-parted m c e = record {
+    parts = 1;
+    place = ap (λ (t : Bool). if t then step lines d c else until_tick lines d m (step lines d c)) e;
+    tests = ap (λ (t : Bool). step_tests lines d c ++ (if t then [] else tests_until_tick lines d m (step lines d c))) e;
+    early = refl;
+    last = ap (λ (t : Bool). (t || false) || ended (step lines d c)) e;
+  }
+
+  later-early : (n : ℕ) (c : Config Left) → step_ticks lines d c ≡ false → has_early_tick lines d n (step lines d c) ≡ false → has_early_tick lines d (suc n) c ≡ false
+  later-early zero c e h = refl
+  later-early (suc n) c e h = ap (λ (t : Bool). t || has_early_tick lines d (suc n) (step lines d c)) e ∙ h
+
+  later-parted : (m : ℕ) (c : Config Left) → step_ticks lines d c ≡ false → Parted m (step lines d c) → Parted (suc m) c
+  later-parted m c e p = record {
+    parts = suc p.parts;
+    place = ap (λ (t : Bool). if t then step lines d c else until_tick lines d m (step lines d c)) e ∙ p.place;
+    tests = ap (λ (t : Bool). step_tests lines d c ++ (if t then [] else tests_until_tick lines d m (step lines d c))) e ∙ ap (λ (ts : List Bool). step_tests lines d c ++ ts) p.tests;
+    early = later-early p.parts c e p.early;
+    last = ap (λ (t : Bool). (t || has_tick lines d p.parts (step lines d c)) || ended (steps lines d p.parts (step lines d c))) e ∙ p.last;
+  }
+
+  by_tick : (m : ℕ) (c : Config Left) (t : Bool) → step_ticks lines d c ≡ t → Parted m (step lines d c) → Parted (suc m) c
+  by_tick m c true e p = ticked-parted m c e
+  by_tick m c false e p = later-parted m c e p
+
+  parted : (m : ℕ) (c : Config Left) → parts_left c.left ≤ m → Parted m c
+  parted zero c h = record { parts = 0; place = refl; tests = refl; early = refl; last = none-over c.left h }
+  parted (suc m) c h =
+      let less = step-lowers lines d c in
+      by_tick m c (step_ticks lines d c) refl (parted m (step lines d c) (omega arith))
+
+  pub is-move : (c : Config Left) → IsMove lines d c
+  is-move c =
+      let p = parted (parts_left c.left) c (omega arith) in
+      record { parts = p.parts; place = p.place; tests = p.tests; early = p.early; last = p.last }
 
   -- over any design with this driver
   module _ (g : Design Left) (has : HasDriver lines d g) where

@@ -34,7 +34,7 @@ turns_from-empty w b k zero = refl
 turns_from-empty w b k (suc n) = turns_from-empty w b (k + 1) n
 
 pub turns_from-more : (w : ℕ) (body : List Stmt) (b : Words) (k m n : ℕ) → m ≡ n + 1 → turns_from w body b k m ≡ on (b ++ word_or w k ∷ []) body ++ turns_from w body b (k + 1) n
-turns_from-more w body b k m n e = rw (e, add-one) refl
+turns_from-more w body b k m n e = ap (turns_from w body b k) (e ∙ add-one n)
 
 -- the list that follows is begun
 pub resumed : (ss : List Stmt) (pos : Position) (w v : Way) (s : Stmt) → slice_get (top ss [] pos.frames).list (pos.place - 1) ≡ Some s →

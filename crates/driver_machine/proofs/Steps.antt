@@ -17,7 +17,7 @@ use Rattle.driver_machine.specs.declared.reply.Moved.TheVariants as moved
 use Rattle.driver_machine.specs.declared.config.DriverConfig.{DriverConfig}
 use Rattle.driver_machine.specs.Sight.{Run, Setting, setting, result_value}
 use Rattle.driver_machine.specs.Drive.{stmts_of, result_of}
-use Rattle.driver_machine.specs.Left.{Left, Rest, Next, Went, Ticks, NoTurns, AtResult, next, config, arrived, step}
+use Rattle.driver_machine.specs.Left.{Left, Rest, Next, Went, Ticks, NoTurns, AtResult, next, config, arrived, step, step_tests, next_tests}
 use Rattle.driver_machine.specs.Place.{items_left}
 use Rattle.driver_machine.specs.Begins.{Doing, doing, Goes, Moves, run_in}
 use Rattle.driver_machine.specs.Configs.{config_of, left_of, body_of, moved_next, moved_of}
@@ -130,3 +130,8 @@ module _ (lines : List Line) (d : DriverParts) (m m' : DriverConfig) (open_ : m.
             ∙ sym (step-is lines d m m' open_ AtResult s.0)),
         ap (λ (v : Bits). moved.Done (reply.Value v)) is ∙ sym (moved-is lines d m m' open_ AtResult s.0),
       )
+
+-- the tests of a step of a body that has not ended
+pub open-tests : (lines : List Line) (d : DriverParts) (m : DriverConfig) → m.reply ≡ None →
+    step_tests lines d (config_of d m) ≡ next_tests (setting lines d.funs m.scene.args) (items_left (stmts_of (body_of d m)) m.position) (run_in m.scene)
+open-tests lines d m e = ap (λ (o : Option Reply). step_tests lines d (config (left_of (body_of d m) m o) (run_in m.scene))) e

@@ -1,9 +1,9 @@
 -- What doing one part of a body comes to, for the position and for the words that a body works on.
 -- The project's own.
-use Rattle.std.specs.Prelude.{◌≡◌, ℕ, ◌-◌, ◌==◌, List, ◌++◌, slice_set, if◌then◌else◌}
+use Rattle.std.specs.Prelude.{◌≡◌, ℕ, ◌-◌, ◌==◌, List, [], ◌∷◌, ◌++◌, slice_get, slice_set, Option, Some, None, Bool, if◌then◌else◌}
 use Rattle.knox_words.specs.Lists.{Words}
 use Rattle.knox_circuit.specs.Circuit.{state_after_tick}
-use Rattle.knox_lang.specs.declared.expr.Stmt.{Stmt}
+use Rattle.knox_lang.specs.declared.expr.Stmt.{Stmt, out-Stmt}
 use Rattle.knox_lang.specs.declared.expr.Stmt.TheOpen.{Stmt-F}
 use Rattle.driver_machine.specs.declared.position.Way.TheVariants as way
 use Rattle.driver_machine.specs.declared.position.Position.{Position}
@@ -11,8 +11,8 @@ use Rattle.driver_machine.specs.declared.scene.Scene.{Scene}
 use Rattle.driver_machine.specs.declared.part.Part.{Part}
 use Rattle.driver_machine.specs.declared.part.Part.TheVariants as part
 use Rattle.driver_machine.specs.Sight.{Run, Setting, value, holds, assigned}
-use Rattle.driver_machine.specs.Left.{Next, Went, Ticks, NoTurns, AtResult, next}
-use Rattle.driver_machine.specs.Place.{items_left, after_list, bumped, entered}
+use Rattle.driver_machine.specs.Left.{Next, Went, Ticks, NoTurns, AtResult, test_of, next}
+use Rattle.driver_machine.specs.Place.{top, items_left, after_list, bumped, entered}
 
 -- the words that a scene holds and a body changes
 abbrev pub run_in : Scene → Run
@@ -49,6 +49,19 @@ Retests g bound j (Stmt-F.While e n body) x r =
     × (x.to ≡ (if holds g x.words bound e then (if j == 0 then x.from else entered x.from (way.While (j - 1))) else x.from))
     × (x.after ≡ x.words)
 Retests g bound j _ x r = Unit {0}
+
+-- a test's outcome as a list, where there is a test
+abbrev pub listed : Option Bool → List Bool
+listed None = []
+listed (Some t) = t ∷ []
+
+-- the outcome of the test with which a statement of the list that is being done begins
+abbrev pub stmt_tests : Setting → Words → Option Stmt → Run → List Bool
+stmt_tests g bound None run = []
+stmt_tests g bound (Some s) run = test_of g (out-Stmt s) bound run
+
+abbrev pub tests_at : Setting → List Stmt → Position → ℕ → Run → List Bool
+tests_at g body pos place run = stmt_tests g (top body [] pos.frames).bound (slice_get (top body [] pos.frames).list place) run
 
 -- what was done leads where the next part of the items does
 abbrev pub Goes : List Stmt → Doing → Next → Part → Type 0

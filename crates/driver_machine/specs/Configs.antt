@@ -1,12 +1,14 @@
 -- A driver's configuration as what is left of its body, with cells, inputs and locals; and whether
 -- it is one of a circuit and a driver. The project's own.
-use Rattle.std.specs.Prelude.{◌≡◌, ◌<◌, ℕ, List, Option, Some, None, slice_get, slice_set}
+use Rattle.std.specs.Prelude.{◌≡◌, ◌<◌, ◌&&◌, ℕ, List, Option, Some, None, Bool, true, slice_get, slice_set}
 use Rattle.knox_words.specs.Bits.{Bits}
+use Rattle.knox_words.specs.Lists.{fit, fits}
 use Rattle.knox_theory.specs.Device.{Replied, OutOfTurns}
 use Rattle.knox_theory.specs.Device as theory
 use Rattle.knox_theory.specs.Design.{Config}
 use Rattle.knox_circuit.specs.declared.line.Line.{Line}
 use Rattle.knox_lang.specs.declared.expr.Expr.{Expr}
+use Rattle.knox_lang.specs.declared.parts.OpHead.{OpHead}
 use Rattle.knox_lang.specs.declared.parts.Body.{Body}
 use Rattle.knox_lang.specs.declared.parts.DriverParts.{DriverParts}
 use Rattle.driver_machine.specs.declared.reply.Reply.{Reply}
@@ -19,6 +21,8 @@ use Rattle.driver_machine.specs.Drive.{stmts_of, result_of}
 use Rattle.driver_machine.specs.Left.{Left, Rest, Over, Next, Went, Ticks, NoTurns, AtResult, next, config, run_of}
 use Rattle.driver_machine.specs.Place.{items_left}
 use Rattle.driver_machine.specs.Begins.{run_in}
+use Rattle.driver_machine.specs.Fits.{run_fits}
+use Rattle.knox_lang.specs.Operation.{arg_widths}
 
 -- a reply in the words of the theory, and back
 abbrev pub meant : Reply → theory.Reply
@@ -71,3 +75,12 @@ moved_of lines d c = moved_in lines d c.left (run_of c)
 abbrev pub LowersParts : Moved → (before after : ℕ) → Type 0
 LowersParts (moved.Done r) m n = n ≡ 0
 LowersParts _ m n = n < m
+
+-- whether the words of a configuration have the widths of an operation and its body
+abbrev pub reply_words_fit : OpHead → DriverConfig → Option Reply → Bool
+reply_words_fit h m (Some (reply.Value w)) = fits h.result w
+reply_words_fit h m (Some reply.Stuck) = true
+reply_words_fit h m None = fit (arg_widths h) m.scene.args
+
+abbrev pub words_fit : List Line → OpHead → Body → DriverConfig → Bool
+words_fit lines h b m = run_fits lines b (run_at m) && reply_words_fit h m m.reply

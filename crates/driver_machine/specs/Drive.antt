@@ -86,9 +86,10 @@ abbrev pub first_run : DriverParts → Option Body → (cells : Words) → Run
 first_run d b cells = record { cells = cells; inputs = d.idle; locals = locals_of b }
 
 abbrev pub drive_body : List Line → DriverParts → Option Body → (args cells : Words) → Reply × Words
-drive_body lines d b args cells =
-    replied (setting lines d.funs args) (result_of b) (drives_all (setting lines d.funs args) (stmts_of b) (first_run d b cells) [])
+drive_body lines d None args cells = (OutOfTurns, cells)
+drive_body lines d (Some b) args cells =
+    replied (setting lines d.funs args) b.result (drives_all (setting lines d.funs args) b.stmts (first_run d (Some b) cells) [])
 
--- the reply of an operation's body, and the cells after it
+-- the reply of an operation's body, and the cells after it; where there is no such body, it is out of turns at once
 abbrev pub drive : List Line → DriverParts → (op : ℕ) → (args cells : Words) → Reply × Words
 drive lines d op args cells = drive_body lines d (slice_get d.bodies op) args cells

@@ -1,13 +1,11 @@
 -- Whether a driver is at a place of an operation's body: what is left of the body obeys the rules of
 -- the language, and all words have their widths. The project's own.
-use Rattle.std.specs.Prelude.{ℕ, ◌&&◌, List, [], ◌∷◌, map, length, reverse, slice_get, Option, Some, Bool, true, false}
+use Rattle.std.specs.Prelude.{ℕ, ◌&&◌, List, [], ◌∷◌, length, slice_get, Option, Some, Bool, true, false}
 use Rattle.knox_words.specs.Lists.{fit, fits}
 use Rattle.knox_theory.specs.Device.{Reply, Replied, OutOfTurns}
 use Rattle.knox_theory.specs.Design.{Config}
 use Rattle.knox_circuit.specs.declared.line.Line.{Line}
 use Rattle.knox_circuit.specs.Circuit.{cells_of, state_widths, input_widths}
-use Rattle.knox_circuit.specs.declared.circuit.Port.{Port}
-use Rattle.knox_circuit.specs.Ports.{outputs_of}
 use Rattle.knox_lang.specs.declared.parts.OpHead.{OpHead}
 use Rattle.knox_lang.specs.declared.parts.Body.{Body}
 use Rattle.knox_lang.specs.declared.parts.DriverParts.{DriverParts}
@@ -16,10 +14,6 @@ use Rattle.knox_lang.specs.Typing.{Widths, width_of, is_width, stmt_fits, stmts_
 use Rattle.knox_lang.specs.WellFormed.{word_widths, local_widths, op_widths, driver_leave, result_fits}
 use Rattle.driver_machine.specs.Sight.{Run}
 use Rattle.driver_machine.specs.Left.{Item, Does, Again, Left, Rest, Over, run_of}
-
--- the widths of the output words
-abbrev pub output_widths : List Line → List ℕ
-output_widths lines = map (λ (p : Port). p.width) (outputs_of (reverse lines))
 
 -- the widths of the words that a body sees
 abbrev pub seen_widths : DriverParts → OpHead → Body → Widths

@@ -4,14 +4,14 @@ use Rattle.std.specs.Prelude.{◌≡◌, ◌<◌, ℕ, List, slice_get, Some, tr
 use Rattle.knox_words.specs.Lists.{Words, fit}
 use Rattle.knox_theory.specs.Design.{Design, Config, Fits}
 use Rattle.knox_circuit.specs.declared.line.Line.{Line}
-use Rattle.knox_circuit.specs.Circuit.{cells_of, state_widths, input_widths, output_words}
+use Rattle.knox_circuit.specs.Circuit.{cells_of, state_widths}
 use Rattle.knox_lang.specs.declared.parts.OpHead.{OpHead}
 use Rattle.knox_lang.specs.declared.parts.DriverParts.{DriverParts}
 use Rattle.knox_lang.specs.Operation.{arg_widths}
 use Rattle.driver_machine.specs.Drive.{drive}
 use Rattle.driver_machine.specs.Left.{Left, start, ended, reply}
 use Rattle.driver_machine.specs.Moves.{move, move_tests, ticks_left}
-use Rattle.driver_machine.specs.Fits.{fits_config, output_widths}
+use Rattle.driver_machine.specs.Fits.{fits_config}
 
 -- the driver has an operation of these arguments
 pub record HasOp (d : DriverParts) (op : ℕ) (args : List ℕ) : Type 0 where
@@ -32,8 +32,3 @@ pub record HasDriver (lines : List Line) (d : DriverParts) (g : Design Left) : T
   pub ticks_left : (c : Config Left) → g.ticks_left c ≡ ticks_left c
   pub reply : (left : Left) → g.reply left ≡ reply left
   pub fits_config : (o : ℕ) (c : Config Left) → g.fits_config o c ≡ fits_config lines d o c
-
--- output words have the widths of their ports, where cells and inputs fit
-abbrev pub ShowsWidths : List Line → Type 0
-ShowsWidths lines =
-    (cells ins : Words) → fit (state_widths (cells_of lines)) cells ≡ true → fit (input_widths lines) ins ≡ true → fit (output_widths lines) (output_words lines cells ins) ≡ true

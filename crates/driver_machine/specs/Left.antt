@@ -1,6 +1,6 @@
 -- What is left of a driver's body, and its next part. Loops are unfolded turn by turn: a `for` when
 -- it is begun, a `while` one turn at each test. The project's own.
-use Rattle.std.specs.Prelude.{ℕ, zero, suc, ◌+◌, List, [], ◌∷◌, ◌++◌, map, slice_get, slice_set, Option, Bool, true, false, if◌then◌else◌}
+use Rattle.std.specs.Prelude.{ℕ, zero, suc, ◌+◌, List, [], ◌∷◌, ◌++◌, map, slice_get, slice_set, Option, None, Some, Bool, true, false, if◌then◌else◌}
 use Rattle.knox_words.specs.Bits.{word_or}
 use Rattle.knox_words.specs.Lists.{Words}
 use Rattle.knox_theory.specs.Device.{Reply, Replied, OutOfTurns}
@@ -13,7 +13,7 @@ use Rattle.knox_lang.specs.declared.expr.Stmt.TheOpen.{Stmt-F}
 use Rattle.knox_lang.specs.declared.parts.Body.{Body}
 use Rattle.knox_lang.specs.declared.parts.DriverParts.{DriverParts}
 use Rattle.driver_machine.specs.Sight.{Run, Setting, setting, value, holds, result_value, assigned}
-use Rattle.driver_machine.specs.Drive.{stmts_of, result_of, first_run}
+use Rattle.driver_machine.specs.Drive.{first_run}
 
 -- a statement with its bound variables, or the test of a loop that may do n more turns
 pub data Item : Type 0 where
@@ -116,9 +116,10 @@ tests_in lines d (Rest items args result) run = next_tests (setting lines d.funs
 abbrev pub step_tests : List Line → DriverParts → Config Left → List Bool
 step_tests lines d c = tests_in lines d c.left (run_of c)
 
--- the driver at the start of an operation's body
+-- the driver at the start of an operation's body; where there is none, it has ended
 abbrev pub start_body : DriverParts → Option Body → (args cells : Words) → Config Left
-start_body d b args cells = config (Rest (on [] (stmts_of b)) args (result_of b)) (first_run d b cells)
+start_body d None args cells = config (Over OutOfTurns) (first_run d None cells)
+start_body d (Some b) args cells = config (Rest (on [] b.stmts) args b.result) (first_run d (Some b) cells)
 
 abbrev pub start : DriverParts → (op : ℕ) → (args cells : Words) → Config Left
 start d op args cells = start_body d (slice_get d.bodies op) args cells

@@ -10,3 +10,4 @@ pub mod Configs
 pub mod Fits
 pub mod Lawful
 pub mod Means
+pub mod Slow

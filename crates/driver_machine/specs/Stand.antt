@@ -10,11 +10,11 @@ use Rattle.driver_machine.specs.Place.{items_left, after_list, IsAtWhile, IsAtSt
 
 -- a list in the statement that was begun last has ended
 abbrev pub Resumes : List Stmt → Position → Way → Position → Stand → Type 0
-Resumes ss p w p' stand.Over = (after_list ss p w ≡ []) × (p' ≡ p)
+Resumes ss p w p' stand.AtEnd = (after_list ss p w ≡ []) × (p' ≡ p)
 Resumes ss p w p' stand.Statement = (items_left ss p' ≡ after_list ss p w ++ items_left ss p) × IsAtStatement ss p'
 Resumes ss p w p' (stand.Test j) = (p' ≡ p) × (w ≡ way.While j) × IsAtWhile ss p
 
 abbrev pub Settles : List Stmt → Position → Position → Stand → Type 0
-Settles ss p p' stand.Over = items_left ss p ≡ []
+Settles ss p p' stand.AtEnd = items_left ss p ≡ []
 Settles ss p p' stand.Statement = (items_left ss p' ≡ items_left ss p) × IsAtStatement ss p'
 Settles ss p p' (stand.Test j) = (items_left ss p ≡ after_list ss p' (way.While j) ++ items_left ss p') × IsAtWhile ss p'

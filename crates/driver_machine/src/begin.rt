@@ -65,8 +65,8 @@ fn begin(
             Ok(Part::Ran)
         }
         Stmt::While(e, n, _) => {
-            let w = scene.value(alloc, c, e, funs, bound)?;
-            if w.value() != 1 {
+            let holds = scene.value(alloc, c, e, funs, bound)?;
+            if holds.value() != 1 {
                 pos.bump();
                 return Ok(Part::Ran);
             }
@@ -187,7 +187,7 @@ pub fn do_part(
     ensures err { OnErr result (scene.new ≡ scene.old) }
 {
     match settle(alloc, pos, body)? {
-        Stand::Over => Ok(Part::AtResult),
+        Stand::AtEnd => Ok(Part::AtResult),
         Stand::Statement => {
             let part = do_statement(alloc, c, body, funs, pos, scene)?;
             Ok(part)

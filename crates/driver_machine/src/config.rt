@@ -1,23 +1,26 @@
 //! A driver on its way through a body.
-ghost use Rattle.std.specs.Prelude.{◌≡◌, ◌-◌, ◌≤◌, ◌++◌, [], ◌∷◌, map, length, Option, Some, None, IfOk, OnOk, OnErr};
+ghost use Rattle.std.specs.Prelude.{◌≡◌, ◌-◌, ◌≤◌, ◌++◌, [], ◌∷◌, map, length, ℕ, List, Option, Some, None, IfOk, OnOk, OnErr};
 ghost use Rattle.std.specs.Option.{option_copied};
 ghost use Rattle.knox_circuit.specs.Circuit.{cells_of};
 ghost use Rattle.knox_circuit.specs.States.{words_in};
 ghost use Rattle.knox_lang.specs.Operation.{start_of};
 ghost use Rattle.driver_machine.specs.Drive.{locals_of, result_of, stmts_of};
-ghost use Rattle.driver_machine.specs.Left.{start, step};
+ghost use Rattle.driver_machine.specs.Left.{start, step, step_tests, next_tests};
 ghost use Rattle.driver_machine.specs.Sight.{setting, result_value};
-ghost use Rattle.driver_machine.specs.Begins.{run_in};
-ghost use Rattle.driver_machine.specs.Configs.{config_of, moved_of, run_at, with_word, with_local, LowersParts};
+ghost use Rattle.driver_machine.specs.Begins.{run_in, listed};
+ghost use Rattle.driver_machine.specs.Configs.{config_of, moved_of, run_at, with_word, with_local, LowersParts, words_fit};
 ghost use Rattle.driver_machine.specs.Moves.{parts_left};
+ghost use Rattle.driver_machine.specs.Fits.{fits_config};
+ghost use Rattle.knox_words.specs.Lists.{fit};
 
 use crate::begin::do_part;
+use crate::met::next_test;
 use crate::part::Part;
 use crate::position::Position;
 use crate::reply::{Moved, Reply};
 use crate::scene::Scene;
 use knox_circuit::{Circuit, Inputs, State};
-use knox_lang::{Body, DriverProgram, Expr, Fun, Stmt};
+use knox_lang::{Body, DriverProgram, Expr, Fun, OpHead, Stmt};
 use knox_words::{Word, Words};
 use sqlite_items::Items;
 use std::alloc::{AllocError, Global};
@@ -51,6 +54,24 @@ fn first_locals(alloc: Global, body: Option<&Body>) -> Result<Words, AllocError>
         Some(body) => zero_locals(alloc, body.locals.as_slice()),
         None => Ok(Words::new(alloc)),
     }
+}
+
+/// Whether words have the widths of the things named, one for one.
+fn named_fit(wanted: &[(Items<u8>, u8)], words: &[Word]) -> bool
+    ensures { result ≡ fit (map (λ (a : List ℕ × ℕ). a.1) wanted.now) words.now }
+{
+    let mut left = wanted;
+    let mut right = words;
+    while let Some((want, more)) = left.split_first() {
+        match right.split_first() {
+            Some((word, others)) if word.width() == want.1 => {
+                left = more;
+                right = others;
+            }
+            _ => return false,
+        }
+    }
+    right.is_empty()
 }
 
 /// The statements of a body; none where there is no body.
@@ -89,7 +110,7 @@ fn result_word(
 
 impl DriverConfig {
     /// The start of an operation's body on a state, with idle inputs and zero locals. Where the
-    /// driver has no such operation, the body is empty.
+    /// driver has no such operation, it is stuck there.
     pub fn start(
         alloc: Global,
         c: &Circuit,
@@ -107,6 +128,10 @@ impl DriverConfig {
         let locals = first_locals(alloc, body)?;
         let idle = parts.idle.copy(alloc)?;
         let args = Words::from_vec(Vec::from_slice(alloc, args)?);
+        let reply = match body {
+            Some(_) => None,
+            None => Some(Reply::Stuck),
+        };
         Ok(DriverConfig {
             op,
             position: Position::start(alloc),
@@ -116,7 +141,7 @@ impl DriverConfig {
                 state: s,
                 inputs: Inputs { words: idle },
             },
-            reply: None,
+            reply,
         })
     }
 
@@ -169,6 +194,42 @@ impl DriverConfig {
         self.scene.locals.put(local as usize, v);
     }
 
+    /// Whether this is a place of a body of the driver, with words of the right widths: what is left
+    /// of the body obeys the rules of the language, and cells and inputs are those of the circuit.
+    #[tactic(auto, using(crate::proofs::Placed::placing))]
+    pub fn fits_config(&self, c: &Circuit, d: &DriverProgram) -> bool
+        ensures { result ≡ fits_config c.now.lines d.now self.now.op (config_of d.now self.now) }
+    {
+        d.is_well_formed();
+        let parts = d.parts();
+        let head = sqlite_items::at(parts.ops.as_slice(), self.op as usize);
+        let body = sqlite_items::at(parts.bodies.as_slice(), self.op as usize);
+        match (head, body) {
+            (Some(head), Some(body)) => self.fits_body(c, head, body),
+            _ => false,
+        }
+    }
+
+    /// Whether the words have the widths of an operation and of its body, which is one of a driver.
+    fn fits_body(&self, c: &Circuit, head: &OpHead, body: &Body) -> bool
+        ensures { result ≡ words_fit c.now.lines head.now body.now self.now }
+    {
+        if !c.fits_state(&self.scene.state) {
+            return false;
+        }
+        if !c.fits_inputs(&self.scene.inputs) {
+            return false;
+        }
+        if !named_fit(body.locals.as_slice(), self.scene.locals.as_slice()) {
+            return false;
+        }
+        match self.reply {
+            Some(Reply::Value(word)) => word.width() == head.result,
+            Some(Reply::Stuck) => true,
+            None => named_fit(head.args.as_slice(), self.scene.args.as_slice()),
+        }
+    }
+
     /// Does the next part of the body, of which only the result may be left. At the end it changes
     /// nothing and answers the same again. Want of memory changes nothing.
     pub fn step(
@@ -189,6 +250,50 @@ impl DriverConfig {
         }
         let moved = self.advance(alloc, c, d)?;
         Ok(moved)
+    }
+
+    /// The outcome of the test that the next step meets, also of a test that ends the body. `None`
+    /// exactly where it meets none. It leaves the configuration as it was.
+    pub fn next_test(
+        &mut self,
+        alloc: Global,
+        c: &Circuit,
+        d: &DriverProgram,
+    ) -> Result<Option<bool>, AllocError>
+        ensures tests { IfOk result (λ t. listed t ≡ step_tests c.now.lines d.now (config_of d.now self.old)) }
+        ensures same { self.new ≡ self.old }
+    {
+        if let Some(_) = self.reply {
+            return Ok(None);
+        }
+        let met = self.meet(alloc, c, d)?;
+        Ok(met)
+    }
+
+    /// The outcome of the test that the next part meets of a body that has not ended.
+    fn meet(
+        &mut self,
+        alloc: Global,
+        c: &Circuit,
+        d: &DriverProgram,
+    ) -> Result<Option<bool>, AllocError>
+        requires { self.old.reply ≡ None }
+        ensures tests { IfOk result (λ t. listed t ≡ step_tests c.now.lines d.now (config_of d.now self.old)) }
+        ensures same { self.new ≡ self.old }
+    {
+        let parts = d.parts();
+        let funs = parts.funs.as_slice();
+        let body = sqlite_items::at(parts.bodies.as_slice(), self.op as usize);
+        let mut position = self.position.copy(alloc)?;
+        let met = next_test(
+            alloc,
+            c,
+            body_stmts(body),
+            funs,
+            &mut position,
+            &mut self.scene,
+        )?;
+        Ok(met)
     }
 
     /// Does the next part of a body that has not ended.

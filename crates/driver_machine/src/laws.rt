@@ -1,12 +1,19 @@
 //! Laws of drivers, as functions that change nothing.
-ghost use Rattle.std.specs.Prelude.{◌≡◌, true, length};
-ghost use Rattle.knox_theory.specs.Design.{Design};
+ghost use Rattle.std.specs.Prelude.{◌≡◌, ℕ, true, length, slice_get, slice_index, slice_set, Some};
+ghost use Rattle.knox_words.specs.Bits.{Bits};
+ghost use Rattle.knox_words.specs.Lists.{Words, fit, fits};
+ghost use Rattle.knox_theory.specs.Design.{Config, Design};
 ghost use Rattle.knox_theory.specs.Lawful.{IsDriver};
-ghost use Rattle.knox_circuit.specs.Circuit.{cells_of, input_widths};
+ghost use Rattle.knox_circuit.specs.Circuit.{cells_of, input_widths, state_widths, output_widths};
+ghost use Rattle.knox_lang.specs.declared.parts.OpHead.{OpHead};
+ghost use Rattle.knox_lang.specs.declared.parts.Body.{Body};
 ghost use Rattle.knox_lang.specs.Fitting.{fits_driver};
-ghost use Rattle.driver_machine.specs.Left.{Left};
-ghost use Rattle.driver_machine.specs.Fits.{output_widths};
-ghost use Rattle.driver_machine.specs.Lawful.{HasDriver, ShowsWidths};
+ghost use Rattle.knox_lang.specs.Operation.{arg_widths};
+ghost use Rattle.knox_lang.specs.WellFormed.{local_widths};
+ghost use Rattle.driver_machine.specs.Left.{Left, start, step};
+ghost use Rattle.driver_machine.specs.Moves.{IsMove};
+ghost use Rattle.driver_machine.specs.Fits.{fits_config};
+ghost use Rattle.driver_machine.specs.Lawful.{HasDriver};
 
 use knox_circuit::Circuit;
 use knox_lang::DriverProgram;
@@ -16,8 +23,32 @@ use knox_lang::DriverProgram;
 /// then its reply and its cells are those of the whole body.
 pub fn drivers_are_lawful(c: &Circuit, d: &DriverProgram)
     requires { fits_driver (input_widths c.now.lines) (output_widths c.now.lines) (length (cells_of c.now.lines)) d.now ≡ true }
-    ensures { ShowsWidths c.now.lines → (g : Design Left) → HasDriver c.now.lines d.now g → IsDriver g }
+    ensures { (g : Design Left) → HasDriver c.now.lines d.now g → IsDriver g }
 {
     knox_circuit::circuits_keep_widths(c);
+    knox_circuit::outputs_have_widths(c);
+    d.is_well_formed();
+}
+
+/// A move goes directly behind the next tick, or to the body's end where that comes first, and its
+/// tests are those of the parts on the way.
+pub fn moves_are_steps(c: &Circuit, d: &DriverProgram)
+    ensures { (x : Config Left) → IsMove c.now.lines d.now x }
+{
+    let _lines = c.lines();
+    let _parts = d.parts();
+}
+
+/// A place of a body stays one: the start of a body is one, a step leads to one, and so does another
+/// word of the same width in place of a device word or a local.
+pub fn places_are_kept(c: &Circuit, d: &DriverProgram)
+    requires { fits_driver (input_widths c.now.lines) (output_widths c.now.lines) (length (cells_of c.now.lines)) d.now ≡ true }
+    ensures start { (op : ℕ) (args cells : Words) (head : OpHead) → slice_get d.now.ops op ≡ Some head → fit (arg_widths head) args ≡ true → fit (state_widths (cells_of c.now.lines)) cells ≡ true → fits_config c.now.lines d.now op (start d.now op args cells) ≡ true }
+    ensures step { (op : ℕ) (x : Config Left) → fits_config c.now.lines d.now op x ≡ true → fits_config c.now.lines d.now op (step c.now.lines d.now x) ≡ true }
+    ensures word { (op : ℕ) (x : Config Left) (k : ℕ) (w : Bits) → fits (slice_index (state_widths (cells_of c.now.lines)) k) w ≡ true → fits_config c.now.lines d.now op x ≡ true → fits_config c.now.lines d.now op (record x { cells = slice_set x.cells k w }) ≡ true }
+    ensures local_word { (op : ℕ) (x : Config Left) (b : Body) (k : ℕ) (w : Bits) → slice_get d.now.bodies op ≡ Some b → fits (slice_index (local_widths b) k) w ≡ true → fits_config c.now.lines d.now op x ≡ true → fits_config c.now.lines d.now op (record x { locals = slice_set x.locals k w }) ≡ true }
+{
+    knox_circuit::circuits_keep_widths(c);
+    knox_circuit::outputs_have_widths(c);
     d.is_well_formed();
 }

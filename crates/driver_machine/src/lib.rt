@@ -4,7 +4,9 @@
 
 mod begin;
 mod config;
+mod examples;
 mod laws;
+mod met;
 mod part;
 mod position;
 mod reply;
@@ -13,6 +15,7 @@ mod settle;
 mod whole;
 
 pub use config::DriverConfig;
-pub use laws::drivers_are_lawful;
+pub use examples::{bodies_move, bodies_reply, drivers_fit, tests_are_met};
+pub use laws::{drivers_are_lawful, moves_are_steps, places_are_kept};
 pub use reply::{Moved, Reply};
 pub use whole::{drive, fits_driver};

@@ -1,5 +1,5 @@
 //! The words that a driver's body works on.
-ghost use Rattle.std.specs.Prelude.{◌≡◌, ◌==◌, ◌+◌, [], map, length, vec_len, IfOk, OnOk, OnErr};
+ghost use Rattle.std.specs.Prelude.{◌≡◌, ◌==◌, ◌+◌, [], map, length, vec_len, IfSome, IfOk, OnOk, OnErr};
 ghost use Rattle.knox_circuit.specs.Circuit.{output_words, state_after_tick, cells_of};
 ghost use Rattle.knox_circuit.specs.Ports.{outputs_of};
 ghost use Rattle.knox_circuit.specs.States.{words_in};
@@ -44,6 +44,24 @@ fn outputs(alloc: Global, c: &Circuit, s: &State, i: &Inputs) -> Result<Words, A
 }
 
 impl Scene {
+    /// The value of a literal, an argument or a local, which needs no outputs.
+    fn plain_word(&self, c: &Circuit, e: &Expr, funs: &[Fun], bound: &Words) -> Option<Word>
+        ensures { IfSome result (λ w. w ≡ value (setting c.now.lines funs.now self.now.args) (run_in self.now) bound.now e.now) }
+    {
+        let _circuit = c;
+        let _funs = funs;
+        let _bound = bound;
+        match e {
+            Expr::Lit(w) => Some(*w),
+            Expr::Name(s) => match s.space {
+                Space::Arg => Some(knox_words::word_far(self.args.as_slice(), s.number, 0)),
+                Space::Local => Some(knox_words::word_far(self.locals.as_slice(), s.number, 0)),
+                _ => None,
+            },
+            _ => None,
+        }
+    }
+
     /// The value of an expression.
     pub fn value(
         &mut self,
@@ -57,6 +75,9 @@ impl Scene {
         ensures bound { bound.new ≡ bound.old }
         ensures same { self.new ≡ self.old }
     {
+        if let Some(word) = self.plain_word(c, e, funs, bound) {
+            return Ok(word);
+        }
         let out = outputs(alloc, c, &self.state, &self.inputs)?;
         let mut spaces = Spaces::new(alloc);
         spaces.give(Space::Output, out);

@@ -12,7 +12,8 @@ use std::alloc::{AllocError, Global};
 /// Where a driver stands.
 #[derive(Clone, Copy, Debug, PartialEq, Eq)]
 pub enum Stand {
-    Over,
+    /// Nothing but the result is left.
+    AtEnd,
     Statement,
     /// Before a loop's test, after which so many turns may follow.
     Test(u32),
@@ -50,9 +51,9 @@ fn resume(alloc: Global, pos: &mut Position, way: Way, body: &[Stmt]) -> Result<
     let mut bound = Words::new(alloc);
     let list = current(body, pos.frames.as_slice(), &mut bound)?;
     match sqlite_items::at(list, pos.place.saturating_sub(1)) {
-        None => Ok(Stand::Over),
+        None => Ok(Stand::AtEnd),
         Some(s) => match follow_up(way, s) {
-            Follow::Nothing => Ok(Stand::Over),
+            Follow::Nothing => Ok(Stand::AtEnd),
             Follow::Turn(k) => {
                 pos.enter(Way::Turn(k))?;
                 Ok(Stand::Statement)
@@ -74,11 +75,11 @@ pub fn settle(alloc: Global, pos: &mut Position, body: &[Stmt]) -> Result<Stand,
             return Ok(Stand::Statement);
         }
         match pos.frames.pop() {
-            None => return Ok(Stand::Over),
+            None => return Ok(Stand::AtEnd),
             Some(f) => {
                 pos.place = f.place;
                 match resume(alloc, pos, f.way, body)? {
-                    Stand::Over => {}
+                    Stand::AtEnd => {}
                     stand => return Ok(stand),
                 }
             }

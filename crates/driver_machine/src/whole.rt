@@ -3,14 +3,13 @@ ghost use Rattle.std.specs.Prelude.{◌≡◌, ◌==◌, ◌&&◌, ◌-◌, ◌<
 ghost use Rattle.std.specs.Cmp.Lexicographic.{pointwise};
 ghost use Rattle.knox_words.specs.Lists.{fit};
 ghost use Rattle.knox_circuit.specs.declared.circuit.Port.{Port};
-ghost use Rattle.knox_circuit.specs.Circuit.{cells_of, input_widths};
+ghost use Rattle.knox_circuit.specs.Circuit.{cells_of, input_widths, output_widths};
 ghost use Rattle.knox_circuit.specs.Ports.{outputs_of};
 ghost use Rattle.knox_circuit.specs.States.{words_in};
 ghost use Rattle.knox_lang.specs.Fitting.{fits_driver};
 ghost use Rattle.driver_machine.specs.Drive.{drive};
 ghost use Rattle.driver_machine.specs.Configs.{config_of, moved_of, said, run_at};
 ghost use Rattle.driver_machine.specs.Means.{means};
-ghost use Rattle.driver_machine.specs.Fits.{output_widths};
 
 use crate::config::DriverConfig;
 use crate::reply::{Moved, Reply};
@@ -20,7 +19,7 @@ use knox_words::{Word, Words};
 use std::alloc::{AllocError, Global};
 
 /// Does an operation's body on a state: the reply, and the state after it. A body whose `while`
-/// runs past its bound is stuck there. Where the driver has no such operation, the body is empty.
+/// runs past its bound is stuck there. Where the driver has no such operation, it is stuck at once.
 /// Want of memory changes nothing.
 pub fn drive(
     alloc: Global,

@@ -1,9 +1,7 @@
 -- What a text means is one thing, and what it means is read unless memory runs out.
 use Rattle.std.proofs.Common.{◌≡◌, ◌≢◌, ℕ, List, [], ◌∷◌, Option, Some, None, Bool, true, false, Result, Ok, Err, refl, sym, ◌∙◌, ap, subst}
 use Rattle.knox_text.specs.declared.place.Place.{Place}
-use Rattle.std.specs.List.{slice_get}
-use Rattle.std.specs.Option.{is_some}
-use Rattle.knox_text.specs.Places.{start_of, end_of, behind}
+use Rattle.knox_text.specs.Places.{start_of, end_of}
 use Rattle.knox_sexpr.specs.declared.tree.Tree.{Tree}
 use Rattle.knox_sexpr.specs.Grammar.{Means}
 use Rattle.knox_edge.specs.Texts.{Bytes}
@@ -73,11 +71,6 @@ refused-circuit _ o x none some = some-none x o (none (λ e. absurd cc)) some
 
 pub not-both : (b : Bool) → b ≡ true → b ≡ false → ⊥
 not-both b e f = cc
-
--- nothing is left behind the last byte
-pub at-end : (at : Place) (rest : List ℕ) (next : Option ℕ) → next ≡ slice_get rest 0 → is_some next ≡ false → behind at rest ≡ at
-at-end at [] next e none = refl
-at-end at (b ∷ bytes) next e none = absurd (not-both (is_some next) (ap is_some e) none)
 
 same-circuit : (o : Option Circuit) (x y : Circuit) → o ≡ Some x → o ≡ Some y → x ≡ y
 same-circuit o x y e f = cc

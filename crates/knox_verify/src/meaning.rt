@@ -25,7 +25,7 @@ use emu_machine::Device;
 use knox_circuit::Circuit;
 use knox_lang::{DriverProgram, EmuProgram, SpecProgram};
 use knox_sexpr::Tree;
-use knox_text::{Cursor, Place};
+use knox_text::{Place, end_place};
 use script_core::{Script, starts_refined};
 use sqlite_items::Items;
 use std::alloc::Global;
@@ -35,18 +35,6 @@ use std::alloc::Global;
 struct Parsed {
     trees: Items<Tree>,
     end: Place,
-}
-
-/// The place after the last byte of a text.
-fn end_of(text: &[u8]) -> Place
-    requires { length text.now ≤ 67108864 }
-    ensures { result ≡ end_of (start_of text.now) }
-{
-    let mut cursor = Cursor::new(text);
-    while cursor.peek().is_some() {
-        cursor.bump();
-    }
-    cursor.place()
 }
 
 /// The trees of a text, with the place of its end.
@@ -60,7 +48,7 @@ fn parse(alloc: Global, text: &[u8]) -> Result<Parsed, VerifyFault>
     let trees = knox_sexpr::read(alloc, text)?;
     Ok(Parsed {
         trees,
-        end: end_of(text),
+        end: end_place(text),
     })
 }
 
