@@ -47,6 +47,17 @@ pub(crate) const EMULATOR: &[u8] = b"\
   (assign ok r)))\n\
 ";
 
+/// The same with an answer of 1 at power-on.
+pub(crate) const ANSWERING_EMULATOR: &[u8] = b"\
+(emulator (field ok 1 0)\n\
+ (power (assign ok #b1))\n\
+ (outputs (ok ok))\n\
+ (tick (local q 1) (local r 1)\n\
+  (if (eq (in cmd) (bv 2 1)) ((query q set (in data))) ())\n\
+  (if (eq (in cmd) (bv 2 2)) ((query r check (in data))) ())\n\
+  (assign ok r)))\n\
+";
+
 /// Hints that close.
 pub(crate) const HINTS: &[u8] = b"\
 (refine (eq (s secret) (c secret)))\n\

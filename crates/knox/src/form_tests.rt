@@ -104,7 +104,7 @@ const OUTSIDE: [Edit; 37] = [
     (
         Which::E,
         b"(outputs (ok ok))",
-        b"(power (assign ok #b1)) (outputs (ok ok))",
+        b"(power (assign ok (noise ok))) (outputs (ok ok))",
     ),
     (Which::E, b"(local q 1)", b"(local q 1) (local q 1)"),
     (
@@ -138,7 +138,7 @@ const OUTSIDE: [Edit; 37] = [
 ];
 
 /// Edits after which the texts say the same.
-const INSIDE: [Edit; 17] = [
+const INSIDE: [Edit; 18] = [
     (Which::C, b"1 sort bitvec 1\n", b"1 sort bitvec 1\r\n"),
     (
         Which::C,
@@ -163,6 +163,11 @@ const INSIDE: [Edit; 17] = [
     ),
     (Which::E, b"(ok ok)", b"(@21 ok)"),
     (Which::E, b"(outputs (ok ok))", b"(power) (outputs (ok ok))"),
+    (
+        Which::E,
+        b"(outputs (ok ok))",
+        b"(power (local x 1) (assign ok x)) (outputs (ok ok))",
+    ),
     (Which::E, b"set (in data)", b"set (in @9)"),
     (Which::E, b"(assign ok r)", b"(assign ok r) ; the last\n"),
     (Which::H, b"(step 1)", b"(step #x01)"),

@@ -1,7 +1,7 @@
 //! Verdicts on small devices, and texts that are outside the form.
 use crate::devices::{
-    LEAKING, SMALL, TORN, TORN_EMULATOR, TORN_HINTS, TORN_SPEC, TWO_OUTPUTS, TWO_STATES, Texts,
-    WEAK_HINTS, WIDE_CIRCUIT, WIDE_EMULATOR, WIDE_SPEC,
+    ANSWERING_EMULATOR, LEAKING, SMALL, TORN, TORN_EMULATOR, TORN_HINTS, TORN_SPEC, TWO_OUTPUTS,
+    TWO_STATES, Texts, WEAK_HINTS, WIDE_CIRCUIT, WIDE_EMULATOR, WIDE_SPEC,
 };
 use crate::status::Status;
 use crate::trial::verify;
@@ -10,7 +10,7 @@ use std::test::Fail;
 /// Texts, how their run ends, and what it writes.
 type Case = (Texts<'static>, Status, &'static [u8]);
 
-const CASES: [Case; 7] = [
+const CASES: [Case; 8] = [
     (SMALL, Status::Yes, b"yes\n"),
     // In ascending order the first choices at which circuit and emulator show different
     // outputs have all words 0 but the emulator's ok.
@@ -21,6 +21,15 @@ const CASES: [Case; 7] = [
         },
         Status::Undecided,
         b"undecided 3\nchoices 0 0 0 1 0 0\n",
+    ),
+    // At power-on the circuit's ok is 0, and the emulator's 1, which the cut refuses.
+    (
+        Texts {
+            e: ANSWERING_EMULATOR,
+            ..SMALL
+        },
+        Status::Undecided,
+        b"undecided 2\nchoices 0 0\n",
     ),
     // With a secret of 0 the circuit shows 0, also where ok is 1.
     (
