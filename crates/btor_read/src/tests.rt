@@ -46,8 +46,8 @@ fn has_sizes(alloc: Global, text: &[u8], lines: usize, inputs: usize, cells: usi
     }
 }
 
-/// Texts of the form in unusual spelling.
-const UNUSUAL: [&[u8]; 10] = [
+/// Texts of the form in unusual spelling, and one of a state without `init`.
+const UNUSUAL: [&[u8]; 11] = [
     b"; a comment alone",
     b"\n\n  \t\n",
     b"1 sort bitvec 1\r\n2 zero 1\r\n",
@@ -58,10 +58,11 @@ const UNUSUAL: [&[u8]; 10] = [
     b"1 sort bitvec 1 x ; y",
     b"7 sort bitvec 8\n4294967295 constd 7 000255 @7",
     b"1 sort bitvec 1\n2 sort bitvec 1\n3 zero 1\n4 not 2 3",
+    b"1 sort bitvec 1\n2 zero 1\n3 state 1\n4 next 1 3 2",
 ];
 
 /// Texts that are one edit away from the form.
-const REFUSED: [&[u8]; 44] = [
+const REFUSED: [&[u8]; 43] = [
     b"1",
     b"sort bitvec 1",
     b"x sort bitvec 1",
@@ -103,7 +104,6 @@ const REFUSED: [&[u8]; 44] = [
     b"1 sort bitvec 1\n2 zero 1\n3 bad 2",
     b"1 sort bitvec 1\n2 state 1",
     b"1 sort bitvec 1\n2 zero 1\n3 state 1\n4 init 1 3 2",
-    b"1 sort bitvec 1\n2 zero 1\n3 state 1\n4 next 1 3 2",
     b"1 sort bitvec 1\n2 zero 1\n3 state 1\n4 init 1 3 2\n5 next 1 3 2\n6 next 1 3 2",
     b"1 sort bitvec 1\n2 input 1\n3 state 1\n4 init 1 3 2\n5 next 1 3 2",
 ];
