@@ -39,15 +39,15 @@ left-in body pos s w e =
     let is : slice_get (here_of body pos).list ((pos.place + 1) - 1) ≡ Some s = ap (λ n. slice_get (here_of body pos).list n) one ∙ e in
     left-entered body (bumped pos) w ∙ ap (λ (o : Option Stmt). on (inner_of w o (here_of body pos).bound).bound (inner_of w o (here_of body pos).bound).list ++ ((inner_of w o (here_of body pos).bound).after ++ items_left body (bumped pos))) is
 
+not_zero : (n : ℕ) → suc n == 0 ≡ false
+not_zero n = elim (eqb_tells (suc n) 0) [ inl p ↦ absurd (omega (arith, p.1)) | inr p ↦ p.0 ]
+
 module _ (g : Setting) (body : List Stmt) (x : Doing) (r : Part) (s : Stmt) (at : slice_get (here_of body x.from).list x.from.place ≡ Some s) where
   abbrev bound : Words
   bound = (here_of body x.from).bound
 
   abbrev rest : List Item
   rest = items_left body (bumped x.from)
-
-  not_zero : (n : ℕ) → suc n == 0 ≡ false
-  not_zero n = elim (eqb_tells (suc n) 0) [ inl p ↦ absurd (omega (arith, p.1)) | inr p ↦ p.0 ]
 
   -- a loop's test, with its outcome
   abbrev tested : Bool → Expr → ℕ → List Stmt → Next
@@ -123,9 +123,6 @@ module _ (g : Setting) (body : List Stmt) (x : Doing) (r : Part) (s : Stmt) (at 
   came t c zero list = if t then NoTurns else Went outside x.words
   came t c (suc j) list = if t then Went (on around list ++ Again c j list around ∷ outside) x.words else Went outside x.words
 
-  not_zero' : (n : ℕ) → suc n == 0 ≡ false
-  not_zero' n = elim (eqb_tells (suc n) 0) [ inl p ↦ absurd (omega (arith, p.1)) | inr p ↦ p.0 ]
-
   retried : (t : Bool) (c : Expr) (n j : ℕ) (list : List Stmt) → out-Stmt s ≡ Stmt-F.While c n list →
       r ≡ (if t then (if j == 0 then part.NoTurns else part.Ran) else part.Ran) →
       x.to ≡ (if t then (if j == 0 then x.from else entered x.from (way.While (j - 1))) else x.from) →
@@ -134,8 +131,8 @@ module _ (g : Setting) (body : List Stmt) (x : Doing) (r : Part) (s : Stmt) (at 
   retried false c n zero list e a b d = (a, ap (items_left body) b, d)
   retried false c n (suc j) list e a b d = (a, ap (items_left body) b, d)
   retried true c n (suc j) list e a b d =
-      let ran : r ≡ part.Ran = rw (not_zero' j) at a in
-      let place : x.to ≡ entered x.from (way.While (suc j - 1)) = rw (not_zero' j) at b in
+      let ran : r ≡ part.Ran = rw (not_zero j) at a in
+      let place : x.to ≡ entered x.from (way.While (suc j - 1)) = rw (not_zero j) at b in
       let one : suc j - 1 ≡ j = omega arith in (
         ran,
         ap (items_left body) place
