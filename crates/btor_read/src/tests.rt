@@ -1,7 +1,9 @@
 //! Texts that are read, and texts that are refused at their lines.
 use crate::read_circuit;
-use knox_circuit::{BtorFault, Circuit, Why};
-use std::alloc::Global;
+use knox_circuit::{BtorFault, Circuit, Noise, Why};
+use knox_words::{Words, word_or};
+use std::alloc::{AllocError, Global};
+use std::test::Fail;
 
 const DEVICE: &[u8] = b"1 sort bitvec 1
 3 sort bitvec 4
@@ -46,7 +48,7 @@ fn has_sizes(alloc: Global, text: &[u8], lines: usize, inputs: usize, cells: usi
     }
 }
 
-/// Texts of the form in unusual spelling, and one of a state without `init`.
+/// Texts of the form in unusual spelling.
 const UNUSUAL: [&[u8]; 11] = [
     b"; a comment alone",
     b"\n\n  \t\n",
@@ -60,6 +62,47 @@ const UNUSUAL: [&[u8]; 11] = [
     b"1 sort bitvec 1\n2 sort bitvec 1\n3 zero 1\n4 not 2 3",
     b"1 sort bitvec 1\n2 zero 1\n3 state 1\n4 next 1 3 2",
 ];
+
+/// A word of 4 bits without `init`, one of 1 bit with it, and one of 4 bits without it.
+const NOISY: &[u8] = b"1 sort bitvec 1
+2 sort bitvec 4
+3 state 2 a
+4 next 2 3 3
+5 state 1 b
+6 zero 1
+7 init 1 5 6
+8 next 1 5 5
+9 state 2
+10 next 2 9 9";
+
+fn words_of(alloc: Global, pairs: &[(u8, u128)]) -> Result<Words, AllocError> {
+    let mut words = Words::new(alloc);
+    for pair in pairs {
+        words.push(word_or(pair.0, pair.1))?;
+    }
+    Ok(words)
+}
+
+fn noise_of(alloc: Global, pairs: &[(u8, u128)]) -> Result<Noise, AllocError> {
+    Ok(Noise {
+        words: words_of(alloc, pairs)?,
+    })
+}
+
+/// Whether these states take noise words: the number of each, and the place of its word.
+fn take_noise(circuit: &Circuit, keep: &[bool], states: &[(u32, u32)]) -> Result<bool, AllocError> {
+    let cells = circuit.noise_cells(keep)?;
+    let mut left = cells.as_slice();
+    for state in states {
+        match left.split_first() {
+            Some((cell, others)) if cell.number == state.0 && cell.first == state.1 => {
+                left = others;
+            }
+            _ => return Ok(false),
+        }
+    }
+    Ok(left.is_empty())
+}
 
 /// Texts that are one edit away from the form.
 const REFUSED: [&[u8]; 43] = [
@@ -159,4 +202,27 @@ fn operands_and_widths(rt: HostRuntime) {
         )
     );
     assert!(rt; is_refused(alloc, b"1 sort bitvec 2\n2 state 1", 2, Why::Next));
+}
+
+#[test]
+fn states_without_init_get_noise(rt: HostRuntime) -> Result<(), Fail> {
+    let alloc = rt.alloc();
+    let circuit = read(alloc, NOISY).map_err(|_| "the text is refused")?;
+    let noise = noise_of(alloc, &[(4, 3), (4, 9)])?;
+    assert!(rt; circuit.fits_factory(&noise));
+    assert!(rt; !circuit.fits_factory(&noise_of(alloc, &[(4, 3)])?));
+    let state = circuit.factory(&noise)?;
+    assert!(rt; state.words == words_of(alloc, &[(4, 3), (1, 0), (4, 9)])?);
+    // The first cell is kept.
+    let keep = [true, false, false];
+    let fresh = noise_of(alloc, &[(4, 2)])?;
+    assert!(rt; circuit.fits_noise(&keep, &fresh));
+    assert!(rt; !circuit.fits_noise(&keep, &noise));
+    if keep.len() == circuit.cells().len() && state.words.len() == circuit.word_count() {
+        let after = circuit.power(&keep, &state, &fresh)?;
+        assert!(rt; after.words == words_of(alloc, &[(4, 3), (1, 0), (4, 2)])?);
+    }
+    assert!(rt; take_noise(&circuit, &[], &[(3, 0), (9, 1)])?);
+    assert!(rt; take_noise(&circuit, &keep, &[(9, 0)])?);
+    Ok(())
 }
