@@ -1,28 +1,39 @@
 -- What each part of a run says of how far the whole run comes: either it comes to what is left of its course with the words that are left, or it ends.
 -- The project's own; nobody has to believe it.
-use Rattle.std.specs.Prelude.{◌≡◌, ℕ, List, [], Bool, true}
+use Rattle.std.specs.Prelude.{◌≡◌, ℕ, ◌+◌, List, [], Option, Some, None, Bool, true}
 use Rattle.knox_words.specs.Lists.{Words, fit}
 use Rattle.knox_theory.specs.Design.{Design}
-use Rattle.knox_theory.specs.Script.{State, Place, Script}
-use Rattle.knox_theory.specs.Course.{Course, takes}
+use Rattle.knox_theory.specs.Script.{State, Place, HostSections, Script}
+use Rattle.knox_theory.specs.Course.{Course, Done, takes}
 use Rattle.knox_theory.specs.WireSegments.{steps, course, wire_course, cut_course, subsumes}
+use Rattle.knox_theory.specs.HostSegments.{factory_course, boot_host_course, rest_course, wait_course, call_course}
+use Rattle.knox_theory.specs.Segments.{factory_bits, boot_host_bits, idle_bits, call_bits, wire_bits, cut_bits}
 use Rattle.knox_circuit.specs.Circuit.{cells_of, state_widths}
 use Rattle.knox_lang.specs.declared.expr.Expr.{Expr}
 use Rattle.emu_machine.specs.declared.device.Device.{Device}
-use Rattle.emu_machine.specs.Meaning.{design_of}
+use Rattle.device_design.specs.Meaning.{design_of}
+use Rattle.driver_machine.specs.Left as driver
 use Rattle.script_core.specs.declared.parts.Item.{Item}
+use Rattle.script_core.specs.declared.parts.Kind.{Kind}
+use Rattle.script_core.specs.declared.parts.Kind.TheVariants.{Factory, BootHost, Rest, Wait, Call, Wire}
+use Rattle.script_core.specs.declared.parts.Root.{Root}
+use Rattle.script_core.specs.declared.parts.Root.TheVariants.{OfKind, OfCut}
 use Rattle.script_core.specs.declared.parts.ScriptParts.{ScriptParts}
 use Rattle.script_core.specs.declared.run.Left.{Left}
 use Rattle.script_core.specs.declared.run.Left.TheVariants.{On, Ended}
-use Rattle.script_core.specs.Hints.{seen, holds, items_of, script_of}
+use Rattle.script_core.specs.Hints.{seen, holds, items_of, script_of, host_of, hint_of_kind, wire_items, first_cut, behind_cut}
 use Rattle.script_core.specs.Runs.{reach, reach_of}
 
 -- the design of a device, and the script for it
-abbrev pub design : Device → Design (Unit {0})
+abbrev pub design : Device → Design driver.Left
 design v = design_of v.circuit v.spec v.driver v.emulator
 
-abbrev pub script : Device → ScriptParts → Script (Unit {0})
+abbrev pub script : Device → ScriptParts → Script driver.Left
 script v p = script_of v.circuit v.spec v.driver p
+
+-- its sections for the host
+abbrev pub host : Device → ScriptParts → HostSections driver.Left
+host v p = host_of v.spec.funs p
 
 -- whether a subsume of a hint holds at a place
 abbrev pub passes : Device → ScriptParts → ℕ → Place → Bool
@@ -47,6 +58,46 @@ wire_run v p = wire_course (design v) (script v p) (passes v p)
 abbrev pub cut_run : Device → ScriptParts → Expr → List Item → Course
 cut_run v p e items =
     cut_course (design v) (script v p) (passes v p) (λ st. holds v.spec.funs e (seen st.fields st.cells st.emu)) (items_of v.spec.funs items)
+
+-- the course of the segment that begins with a section of a kind
+abbrev pub kind_course : Device → ScriptParts → Kind → Course
+kind_course v p Factory = factory_course (design v) (script v p) (host v p)
+kind_course v p BootHost = boot_host_course (design v) (script v p) (host v p)
+kind_course v p Rest = rest_course (design v) (script v p) (host v p)
+kind_course v p Wait = wait_course (design v) (host v p)
+kind_course v p (Call o) = call_course (design v) (host v p) o
+kind_course v p Wire = wire_run v p
+
+-- the course of the segment behind a cut with this condition
+abbrev pub behind_course : Device → ScriptParts → Option Expr → Course
+behind_course v p None = Done
+behind_course v p (Some e) = cut_run v p e (behind_cut (wire_items p))
+
+-- the course of the segment that begins with a root
+abbrev pub root_course : Device → ScriptParts → Option Root → Course
+root_course v p None = Done
+root_course v p (Some (OfKind k)) = kind_course v p k
+root_course v p (Some OfCut) = behind_course v p (first_cut (wire_items p))
+
+-- the bits that its widest run takes
+abbrev pub kind_bits : Device → ScriptParts → Kind → ℕ
+kind_bits v p Factory = factory_bits (design v)
+kind_bits v p BootHost = boot_host_bits (design v)
+kind_bits v p Rest = idle_bits (design v)
+kind_bits v p Wait = idle_bits (design v)
+kind_bits v p (Call o) = call_bits (design v) o ((host v p).calls o)
+kind_bits v p Wire = wire_bits (design v) (items_of v.spec.funs (wire_items p))
+
+abbrev pub root_bits : Device → ScriptParts → Option Root → ℕ
+root_bits v p None = 0
+root_bits v p (Some (OfKind k)) = kind_bits v p k
+root_bits v p (Some OfCut) = cut_bits (design v) (items_of v.spec.funs (behind_cut (wire_items p)))
+
+-- the hint of its section or cut
+abbrev pub root_hint : ScriptParts → Option Root → ℕ
+root_hint p None = 0
+root_hint p (Some (OfKind k)) = hint_of_kind k p.sections
+root_hint p (Some OfCut) = hint_of_kind Wire p.sections + 1
 
 -- taking words of these widths: those that were taken fit, and the run goes on with them
 abbrev pub Takes : List ℕ → Words → Words → Left → Type 0

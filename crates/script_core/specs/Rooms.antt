@@ -2,17 +2,19 @@
 use Rattle.std.specs.Prelude.{ℕ, List, [], length, vec_len}
 use Rattle.knox_theory.specs.Script.{State}
 use Rattle.knox_circuit.specs.Circuit.{Sizes, sizes_of, cells_of, state_widths, input_widths}
-use Rattle.knox_circuit.specs.Power.{persistent_widths}
+use Rattle.knox_circuit.specs.Power.{persistent_widths, states_of, noise_widths}
 use Rattle.knox_lang.specs.WellFormed.{word_widths}
 use Rattle.emu_machine.specs.declared.device.Device.{Device}
 use Rattle.emu_machine.specs.Fits.{outputs}
 use Rattle.script_core.specs.declared.room.Room.{Room}
 
--- how large a scratch area is, how many outputs there are, and the widths of the words that runs take: of the specification's fields, the persistent
--- words, all device words, the emulator's words and the inputs
+-- how large a scratch area is, how many outputs there are, and the widths of the words that runs take: of the noise at the factory and at a power-cycle, the
+-- specification's fields, the persistent words, all device words, the emulator's words and the inputs
 pub record RoomSizes : Type 0 where
   pub scratch : Sizes
   pub outputs : ℕ
+  pub factory_noise : List ℕ
+  pub noise : List ℕ
   pub fields : List ℕ
   pub persistent : List ℕ
   pub cells : List ℕ
@@ -24,6 +26,8 @@ abbrev pub room_for : Device → RoomSizes
 room_for v = record {
   scratch = sizes_of v.circuit.lines;
   outputs = length (outputs v.circuit);
+  factory_noise = noise_widths (states_of v.circuit.lines) [];
+  noise = noise_widths (states_of v.circuit.lines) v.driver.keep;
   fields = word_widths v.spec.init;
   persistent = persistent_widths (cells_of v.circuit.lines) v.driver.keep;
   cells = state_widths (cells_of v.circuit.lines);
@@ -36,6 +40,8 @@ abbrev pub made_for : Room → RoomSizes
 made_for r = record {
   scratch = r.scratch;
   outputs = vec_len r.outputs;
+  factory_noise = r.widths.factory_noise.items;
+  noise = r.widths.noise.items;
   fields = r.widths.fields.items;
   persistent = r.widths.persistent.items;
   cells = r.widths.cells.items;

@@ -9,7 +9,7 @@ use Rattle.knox_circuit.specs.Circuit.{Circuit}
 use Rattle.knox_lang.specs.declared.parts.SpecParts.{SpecParts}
 use Rattle.knox_lang.specs.declared.parts.DriverParts.{DriverParts}
 use Rattle.knox_lang.specs.declared.parts.EmuParts.{EmuParts}
-use Rattle.emu_machine.specs.Meaning.{design_of}
+use Rattle.device_design.specs.Meaning.{design_of}
 use Rattle.script_core.specs.declared.parts.ScriptParts.{ScriptParts}
 use Rattle.script_core.specs.declared.run.Progress.{Progress}
 use Rattle.script_core.specs.declared.run.Progress.TheVariants as progress

@@ -41,8 +41,27 @@ pub struct Item {
 /// What a section is for.
 #[derive(Clone, Copy, Debug, PartialEq, Eq)]
 pub enum Kind {
+    /// The device leaves the factory.
+    Factory,
+    /// A power-cycle, and the trusted host is attached.
+    BootHost,
+    /// Power may be cut between host calls.
+    Rest,
+    /// A tick between host calls, at idle inputs.
+    Wait,
+    /// A host call of the operation with this number.
+    Call(u32),
     /// The adversary is attached: power-cycles, inputs that are set, outputs that are read, ticks.
     Wire,
+}
+
+/// What a segment begins with.
+#[derive(Clone, Copy, Debug, PartialEq, Eq)]
+pub(crate) enum Root {
+    /// A section of this kind.
+    OfKind(Kind),
+    /// The cut of `wire`.
+    OfCut,
 }
 
 /// A section of a script with its hint number.
@@ -54,9 +73,11 @@ pub struct Section {
 }
 
 /// A script. `refine` relates the specification's fields and the persistent cells, and has to
-/// hold whenever power may be cut.
+/// hold whenever power may be cut. `idle` relates the fields and all cells, and has to hold between
+/// host calls.
 #[derive(Drop)]
 pub struct ScriptParts {
     pub refine: Expr,
+    pub idle: Expr,
     pub sections: Items<Section>,
 }
