@@ -10,7 +10,7 @@ use Rattle.knox.specs.declared.outcome.Outcome.{Outcome}
 use Rattle.knox.specs.declared.outcome.Outcome.TheVariants.{NoCommand, UnbuiltCommand}
 use Rattle.knox_verify.specs.declared.verdict.Verdict.{Verdict}
 use Rattle.knox.specs.declared.judging.Unjudged.{Unjudged}
-use Rattle.knox.specs.declared.judging.Unjudged.TheVariants.{NotYet, Memory}
+use Rattle.knox.specs.declared.judging.Unjudged.TheVariants.{NotYet, Lacking, Memory}
 use Rattle.knox.specs.declared.checking.CheckEnd.{CheckEnd}
 use Rattle.knox.specs.declared.checking.Unchecked.{Unchecked}
 use Rattle.knox.specs.declared.checking.Unchecked.TheVariants as unchecked
@@ -18,10 +18,10 @@ use Rattle.knox.specs.Checking.{ChecksTexts, UnchecksTexts}
 use Rattle.knox.specs.Lines.{letters_of}
 use Rattle.knox.specs.Commands.{command_of}
 use Rattle.knox.specs.Reading.{ReadWhole, texts_of}
-use Rattle.knox.specs.Verdicts.{JudgesTexts, InNoForm}
+use Rattle.knox.specs.Verdicts.{JudgesTexts}
 use Rattle.knox.specs.declared.status.Status.{Status}
 use Rattle.knox.specs.Outcomes.{status_of, to_out, to_err}
-use Rattle.knox.specs.Runs.{IsVerify, IsCheck, Verifies, ChecksNamed, Because, Sunk, Delivers, Ends, names_of, outcome_of, outcome_of_check}
+use Rattle.knox.specs.Runs.{IsVerify, IsCheck, Verifies, ChecksNamed, Because, Sunk, Delivers, Ends, UnjudgesTexts, names_of, outcome_of, outcome_of_check}
 
 -- the entries past those that were given before are the ones that the reads gave
 pub drop-given : (names : List Bytes) (b a : Reads) (first : ℕ) (w : ReadWhole names b a) → first ≡ length b.given → drop first a.given ≡ w.entries
@@ -29,12 +29,13 @@ drop-given names b a first w e =
     ap (drop first) w.given ∙ ap (λ n. drop n (b.given ++ w.entries)) e ∙ drop-append_seam b.given w.entries
 
 -- a judgement of texts that were all read
-pub Verifies-judged : (names : List Bytes) (b a : Reads) (j : Result Verdict Unjudged) (o : Outcome) → o ≡ outcome_of j → (w : ReadWhole names b a) → IfOk j (λ v. JudgesTexts v (texts_of w.entries)) → IfErr j (λ why. why ≡ NotYet → InNoForm (texts_of w.entries)) → Verifies names b a o
+pub Verifies-judged : (names : List Bytes) (b a : Reads) (j : Result Verdict Unjudged) (o : Outcome) → o ≡ outcome_of j → (w : ReadWhole names b a) → IfOk j (λ v. JudgesTexts v (texts_of w.entries)) → IfErr j (λ why. UnjudgesTexts why (texts_of w.entries)) → Verifies names b a o
 Verifies-judged names b a j o e w h n = subst (Verifies names b a) (sym e) (at j h n)
   where
-    at : (j : Result Verdict Unjudged) → IfOk j (λ v. JudgesTexts v (texts_of w.entries)) → IfErr j (λ why. why ≡ NotYet → InNoForm (texts_of w.entries)) → Verifies names b a (outcome_of j)
+    at : (j : Result Verdict Unjudged) → IfOk j (λ v. JudgesTexts v (texts_of w.entries)) → IfErr j (λ why. UnjudgesTexts why (texts_of w.entries)) → Verifies names b a (outcome_of j)
     at (Ok v) h n = (w, h)
-    at (Err NotYet) h n = (w, n refl)
+    at (Err NotYet) h n = (w, n)
+    at (Err (Lacking letter why)) h n = (w, n)
     at (Err Memory) h n = inr w
 
 -- a check of texts that were all read

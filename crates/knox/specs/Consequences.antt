@@ -7,6 +7,9 @@ use Rattle.knox.specs.declared.status.Status.{Status}
 use Rattle.knox.specs.declared.status.Status.TheVariants as status
 use Rattle.script_core.specs.declared.parts.HintNo.{HintNo}
 use Rattle.script_core.specs.declared.parts.Choices.{Choices}
+use Rattle.knox_verify.specs.declared.verdict.Letter.{Letter}
+use Rattle.knox_verify.specs.declared.verdict.TextWhy.{TextWhy}
+use Rattle.knox_verify.specs.declared.verdict.VerifyFault.TheVariants as refusal
 use Rattle.knox_verify.specs.declared.verdict.Verdict.{Verdict}
 use Rattle.knox_verify.specs.declared.verdict.Verdict.TheVariants.{Yes, Undecided, TooWide}
 use Rattle.lrat_check.specs.declared.step.Step.{Step}
@@ -19,7 +22,8 @@ use Rattle.knox.specs.Commands.{command_of}
 use Rattle.knox.specs.Checking.{ChecksTexts, UnchecksTexts}
 use Rattle.knox.specs.CheckLines.{check_line, fault_line}
 use Rattle.knox.specs.Reading.{ReadWhole, ReadUpTo, texts_of}
-use Rattle.knox.specs.Verdicts.{JudgesTexts, InNoForm, printed}
+use Rattle.knox.specs.Verdicts.{JudgesTexts, InNoForm, NamesTexts, printed}
+use Rattle.knox.specs.TextLines.{text_line}
 use Rattle.knox.specs.Lines.{usage_line, not_yet_line, cannot_read_line, letters_of, letter_at, too_long_line}
 use Rattle.knox.specs.Runs.{IsVerify, IsCheck, IsOther, Sunk, Whole, names_of}
 
@@ -43,6 +47,13 @@ Unreadable ws before after out out' err err' =
     (which : ℕ) × (why : ProofFault) × IsCheck (command_of ws)
     × ((whole : ReadWhole (names_of ws) before after) × UnchecksTexts (Faulty which why) (texts_of whole.entries))
     × Whole out out' [] × Whole err err' (fault_line (letter_at (letters_of (command_of ws)) which) why)
+
+-- the five texts were read, and that of the driver or of the hints is in the form but for what is missing, which was written to `err`, and nothing to `out`
+abbrev pub LacksText : List Bytes → Reads → Reads → Sunk → Sunk → Sunk → Sunk → Type 0
+LacksText ws before after out out' err err' =
+    (letter : Letter) × (why : TextWhy) × IsVerify (command_of ws)
+    × ((whole : ReadWhole (names_of ws) before after) × NamesTexts (refusal.Text letter why) (texts_of whole.entries))
+    × Whole out out' [] × Whole err err' (text_line letter why)
 
 -- a command that is built
 abbrev pub IsBuilt : Option Command → Type 0
@@ -70,7 +81,7 @@ Explains ws before after out out' err err' status.ReadFault =
 Explains ws before after out out' err err' status.Text =
     ((which : ℕ) × IsBuilt (command_of ws) × ReadUpTo (names_of ws) which TooLong before after
     × Whole out out' [] × Whole err err' (too_long_line (letter_at (letters_of (command_of ws)) which)))
-    ⊎ Unreadable ws before after out out' err err'
+    ⊎ (Unreadable ws before after out out' err err' ⊎ LacksText ws before after out out' err err')
 Explains ws before after out out' err err' status.WriteFault = Rose out.faults out'.faults ⊎ Rose err.faults err'.faults
 Explains ws before after out out' err err' status.Memory = Unit {0}
 

@@ -7,3 +7,4 @@ pub mod Lines
 pub mod Outcomes
 pub mod Runs
 pub mod Consequences
+pub mod TextLines

@@ -22,7 +22,7 @@ pub fn rejected(alloc: Global, number: u32, why: Step) -> Result<String, AllocEr
 }
 
 /// A place and a word.
-fn placed(alloc: Global, at: Place, word: &[u8]) -> Result<Vec<u8>, AllocError>
+pub fn placed(alloc: Global, at: Place, word: &[u8]) -> Result<Vec<u8>, AllocError>
     ensures { IfOk result (λ shown. shown.items ≡ placed_at at word.now) }
 {
     let line = at.line;

@@ -5,6 +5,7 @@ ghost use Rattle.knox.specs.Runs.{Sunk, Says, Delivers};
 ghost use Rattle.knox.specs.Verdicts.{printed, undecided_line, choices_line, too_wide_line};
 ghost use Rattle.knox.specs.Lines.{cannot_read_line, letter_at, too_long_line};
 ghost use Rattle.knox.specs.CheckLines.{rejected_line, check_line, fault_line};
+ghost use Rattle.knox.specs.TextLines.{text_line};
 ghost use Rattle.knox.specs.Outcomes.{status_of, status_of_verdict, status_of_check, to_out, to_err};
 
 use crate::check_saying::{fault, rejected};
@@ -12,8 +13,9 @@ use crate::checking::CheckEnd;
 use crate::outcome::Outcome;
 use crate::saying::{cannot_read, choices, put_line, say, too_long, too_wide, undecided};
 use crate::status::Status;
+use crate::text_saying::text_fault;
 use knox_edge::Sink;
-use knox_verify::Verdict;
+use knox_verify::{Letter, TextWhy, Verdict};
 use lrat_check::Step;
 use proof_text::ProofFault;
 use script_core::{Choices, HintNo};
@@ -130,6 +132,18 @@ fn say_fault<K: Sink>(alloc: Global, sink: &mut K, letter: &[u8], why: ProofFaul
     say(sink, line.as_slice(), Status::Text)
 }
 
+/// Writes the fault of one of a verify command's texts.
+fn say_text_fault<K: Sink>(alloc: Global, sink: &mut K, letter: Letter, why: TextWhy) -> Status
+    ensures { let old : Sunk = record { written = K.written sink.old; faults = K.faults sink.old } in
+        let new : Sunk = record { written = K.written sink.new; faults = K.faults sink.new } in
+        Says (text_line letter why) Status.Text result old new }
+{
+    let Ok(line) = text_fault(alloc, letter, why) else {
+        return Status::Memory;
+    };
+    say(sink, line.as_slice(), Status::Text)
+}
+
 /// The letter at a place, or no bytes past the end.
 fn letter(letters: &[u8], which: usize) -> &[u8]
     ensures { result.now ≡ letter_at letters.now which }
@@ -172,6 +186,7 @@ pub fn deliver<O: Sink, E: Sink>(
         Outcome::UnbuiltCommand | Outcome::UnbuiltTexts => say(err, NOT_YET, Status::NotYet),
         Outcome::Unread(which) => say_unread(alloc, err, name_at(names, *which)),
         Outcome::Overlong(which) => say_overlong(alloc, err, letter(letters, *which)),
+        Outcome::Lacking(letter, why) => say_text_fault(alloc, err, *letter, *why),
         Outcome::Judged(verdict) => say_verdict(alloc, out, verdict),
         Outcome::Checked(end) => say_checked(alloc, out, *end),
         Outcome::Faulty(which, why) => say_fault(alloc, err, letter(letters, *which), *why),

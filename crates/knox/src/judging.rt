@@ -1,13 +1,13 @@
 //! Gives texts that were read to the verifier, or to the checker of proofs.
 ghost use Rattle.std.specs.Prelude.{◌≡◌, ◌≤◌, ◌+◌, ◌^◌, length, drop, IfOk, IfErr, MatchResult};
 ghost use Rattle.knox.specs.Reading.{Within, texts_of};
-ghost use Rattle.knox.specs.declared.judging.Unjudged.TheVariants.{NotYet};
-ghost use Rattle.knox.specs.Verdicts.{JudgesTexts, InNoForm};
+ghost use Rattle.knox.specs.Runs.{UnjudgesTexts};
+ghost use Rattle.knox.specs.Verdicts.{JudgesTexts};
 ghost use Rattle.knox.specs.Checking.{ChecksTexts, UnchecksTexts};
 
 use crate::checking::{CheckEnd, Unchecked, check_texts};
 use knox_edge::Shelf;
-use knox_verify::{Verdict, VerifyFault, verify_texts};
+use knox_verify::{Letter, TextWhy, Verdict, VerifyFault, verify_texts};
 use std::alloc::Global;
 
 /// Why texts that were read got no verdict.
@@ -15,6 +15,8 @@ use std::alloc::Global;
 pub enum Unjudged {
     /// A text is in no form that is built yet.
     NotYet,
+    /// This text is in the form that is built but for what is missing there.
+    Lacking(Letter, TextWhy),
     /// Memory ran out.
     Memory,
 }
@@ -31,7 +33,7 @@ pub fn judge<F: Shelf>(
     requires within { Within (texts_of (drop first (F.given shelf.now))) }
     requires places { first + 5 ≤ 2 ^ 64 }
     ensures judged { IfOk result (λ v. JudgesTexts v (texts_of (drop first (F.given shelf.now)))) }
-    ensures not_yet { IfErr result (λ why. why ≡ NotYet → InNoForm (texts_of (drop first (F.given shelf.now)))) }
+    ensures unjudged { IfErr result (λ why. UnjudgesTexts why (texts_of (drop first (F.given shelf.now)))) }
 {
     let c = shelf.text(first);
     let s = shelf.text(first + 1);
@@ -42,7 +44,7 @@ pub fn judge<F: Shelf>(
         Ok(verdict) => Ok(verdict),
         Err(VerifyFault::NotYet) => Err(Unjudged::NotYet),
         Err(VerifyFault::Memory) => Err(Unjudged::Memory),
-        Err(VerifyFault::Text(_, _)) => unreachable!(),
+        Err(VerifyFault::Text(letter, why)) => Err(Unjudged::Lacking(letter, why)),
     }
 }
 

@@ -27,6 +27,7 @@ mod status;
 mod store_tests;
 #[cfg(test)]
 mod tests;
+mod text_saying;
 #[cfg(test)]
 mod trial;
 #[cfg(test)]

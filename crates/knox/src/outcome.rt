@@ -2,7 +2,7 @@
 ghost use Rattle.std.specs.Prelude.{◌≡◌, ◌∷◌};
 
 use crate::checking::CheckEnd;
-use knox_verify::Verdict;
+use knox_verify::{Letter, TextWhy, Verdict};
 use proof_text::ProofFault;
 
 /// What a run has to say. A number counts the command's texts from 0.
@@ -18,6 +18,8 @@ pub enum Outcome {
     Overlong(usize),
     /// A text is in no form that is built yet.
     UnbuiltTexts,
+    /// This text is in the form that is built but for what is missing there.
+    Lacking(Letter, TextWhy),
     /// The texts have this verdict.
     Judged(Verdict),
     /// The check of a proof ends so.

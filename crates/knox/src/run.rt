@@ -85,6 +85,7 @@ fn judged(judgement: Result<Verdict, Unjudged>) -> Outcome
     match judgement {
         Ok(verdict) => Outcome::Judged(verdict),
         Err(Unjudged::NotYet) => Outcome::UnbuiltTexts,
+        Err(Unjudged::Lacking(letter, why)) => Outcome::Lacking(letter, why),
         Err(Unjudged::Memory) => Outcome::OutOfMemory,
     }
 }
@@ -134,7 +135,7 @@ fn text_letters(words: &[Vec<u8>]) -> &'static [u8]
 /// - `NotYet` comes where the command isn't built, and then nothing is read, or where a text is in
 ///   no form that is built.
 /// - `ReadFault` and `Text` come where a read was refused; `Text` also where a text of a check has a
-///   fault.
+///   fault, and where a driver lacks nothing but a call, or hints nothing but a form.
 /// - `WriteFault` comes in place of the status that was to come, where a put failed.
 /// - `Memory` may come at any point.
 pub fn run<F: Shelf, O: Sink, E: Sink>(

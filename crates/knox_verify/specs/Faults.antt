@@ -1,13 +1,17 @@
--- Faults of texts as faults of the verifier: want of memory stays want of memory, and every other
--- fault is that of a form that isn't built.
+-- Faults of texts as faults of the verifier: want of memory stays want of memory. Two faults have a place already, a call that a driver's text lacks and a
+-- form that a text of hints lacks; every other one is that of a form that isn't built.
 use Rattle.knox_circuit.specs.declared.fault.Why.{Why}
 use Rattle.knox_circuit.specs.declared.fault.Why.TheVariants as circuit
 use Rattle.knox_sexpr.specs.declared.fault.SexprFault.{SexprFault}
 use Rattle.knox_sexpr.specs.declared.fault.SexprFault.TheVariants as tree
 use Rattle.expr_read.specs.declared.faults.LangWhy.{LangWhy}
 use Rattle.expr_read.specs.declared.faults.LangWhy.TheVariants as lang
+use Rattle.expr_read.specs.declared.faults.LangFault.{LangFault}
 use Rattle.script_read.specs.declared.fault.ScriptWhy.{ScriptWhy}
 use Rattle.script_read.specs.declared.fault.ScriptWhy.TheVariants as script
+use Rattle.script_read.specs.declared.fault.ScriptFault.{ScriptFault}
+use Rattle.knox_verify.specs.declared.verdict.Letter.TheVariants.{D, H}
+use Rattle.knox_verify.specs.declared.verdict.TextWhy.TheVariants.{Lang, Script}
 use Rattle.knox_verify.specs.declared.verdict.VerifyFault.{VerifyFault}
 use Rattle.knox_verify.specs.declared.verdict.VerifyFault.TheVariants.{Text, NotYet, Memory}
 
@@ -28,6 +32,20 @@ abbrev pub of_program : LangWhy → VerifyFault
 of_program lang.Memory = Memory
 of_program _ = NotYet
 
-abbrev pub of_script : ScriptWhy → VerifyFault
-of_script script.Memory = Memory
-of_script _ = NotYet
+-- of a driver's text
+abbrev pub of_driver_why : LangFault → LangWhy → VerifyFault
+of_driver_why f lang.Memory = Memory
+of_driver_why f lang.Missing = Text D (Lang f)
+of_driver_why f _ = NotYet
+
+abbrev pub of_driver : LangFault → VerifyFault
+of_driver f = of_driver_why f f.why
+
+-- of a text of hints
+abbrev pub of_script_why : ScriptFault → ScriptWhy → VerifyFault
+of_script_why f script.Memory = Memory
+of_script_why f script.Missing = Text H (Script f)
+of_script_why f _ = NotYet
+
+abbrev pub of_script : ScriptFault → VerifyFault
+of_script f = of_script_why f f.why

@@ -1,18 +1,19 @@
 use Rattle.std.specs.Prelude.{◌≡◌, ℕ, ◌<◌, List, ◌≤◌, ◌∷◌, ◌++◌}
 use Rattle.knox_words.specs.Lists.{Words}
 use Rattle.knox_theory.specs.Device.{Device}
-use Rattle.knox_theory.specs.Agreement.{AgreeOnWires}
+use Rattle.knox_theory.specs.Agreement.{Agree}
 use Rattle.knox_theory.specs.Design.{Design}
 use Rattle.knox_theory.specs.Script.{Script}
 use Rattle.knox_theory.specs.Segments.{Segment, segments}
 use Rattle.knox_theory.specs.Course.{used}
-use Rattle.knox_theory.specs.Closed.{Closed, ClosedBelow, Falsifies, IsAmong, StartsRefined}
+use Rattle.knox_theory.specs.Closed.{Closed, ClosedBelow, Falsifies, IsAmong}
 use Rattle.knox_circuit.specs.Circuit.{Circuit}
 use Rattle.knox_lang.specs.declared.parts.SpecParts.{SpecParts}
 use Rattle.knox_lang.specs.declared.parts.DriverParts.{DriverParts}
 use Rattle.knox_lang.specs.declared.parts.EmuParts.{EmuParts}
+use Rattle.driver_machine.specs.Left.{Left}
 use Rattle.emu_machine.specs.declared.device.Device.{Device as Machine}
-use Rattle.emu_machine.specs.Meaning.{device_of, design_of}
+use Rattle.device_design.specs.Meaning.{device_of, design_of}
 use Rattle.script_core.specs.declared.parts.ScriptParts.{ScriptParts}
 use Rattle.script_core.specs.Hints.{script_of}
 use Rattle.script_core.specs.Runs.{counted}
@@ -33,10 +34,10 @@ parts_of dev script = record { circuit = dev.circuit; spec = dev.spec; driver = 
 abbrev pub device : Parts → Device
 device p = device_of p.circuit p.spec p.driver p.emulator
 
-abbrev pub design : Parts → Design (Unit {0})
+abbrev pub design : Parts → Design Left
 design p = design_of p.circuit p.spec p.driver p.emulator
 
-abbrev pub hints : Parts → Script (Unit {0})
+abbrev pub hints : Parts → Script Left
 hints p = script_of p.circuit p.spec p.driver p.script
 
 -- the segments before one, in order of their numbers, of which none takes more than 20 bits
@@ -50,13 +51,12 @@ pub record NarrowBefore (p : Parts) (g : Segment) : Type 0 where
 abbrev pub Narrow : Parts → Type 0
 Narrow p = (x : Segment) → IsAmong x (segments (design p) (hints p)) → counted x.choice_bits ≤ 20
 
--- No choices falsify a hint of the script, no segment takes too many bits, and `refine` holds as the device leaves the factory; so the worlds agree on every list of events without a
--- host: on power-cycles at any moment, inputs that are set, outputs that are read and ticks.
+-- No choices falsify a hint of the script, and no segment takes too many bits; so the worlds agree: whatever the factory noise, on every list of events, of calls by the host,
+-- power-cycles at any moment, inputs that are set, outputs that are read and ticks.
 pub record Agrees (p : Parts) : Type 0 where
   pub closed : Closed (design p) (hints p)
   pub narrow : Narrow p
-  pub starts : StartsRefined (design p) (hints p)
-  pub agree : AgreeOnWires (device p)
+  pub agree : Agree (device p)
 
 -- these choices falsify a hint of a segment of at most 20 bits, and are the words that its run takes; no segment before it takes more, and no choices falsify a hint of one
 pub record Undecides (p : Parts) (hint : ℕ) (choices : Words) : Type 0 where

@@ -6,12 +6,14 @@ use Rattle.knox_verify.specs.declared.verdict.Letter.{Letter}
 use Rattle.knox_verify.specs.declared.verdict.Letter.TheVariants.{C, S, D, E, H}
 use Rattle.knox_verify.specs.declared.verdict.Verdict.{Verdict}
 use Rattle.knox_verify.specs.declared.verdict.Verdict.TheVariants.{Yes, Undecided, TooWide}
-use Rattle.knox_verify.specs.declared.verdict.TextWhy.TheVariants.{TooLong}
+use Rattle.knox_verify.specs.declared.verdict.TextWhy.TheVariants.{TooLong, Lang, Script}
 use Rattle.knox_verify.specs.declared.verdict.VerifyFault.{VerifyFault}
-use Rattle.knox_verify.specs.declared.verdict.VerifyFault.TheVariants.{Text, NotYet}
+use Rattle.knox_verify.specs.declared.verdict.VerifyFault.TheVariants.{Text, NotYet, Memory}
 use Rattle.knox_theory.specs.Closed.{Closed}
+use Rattle.expr_read.specs.declared.faults.LangFault.{LangFault}
+use Rattle.script_read.specs.declared.fault.ScriptFault.{ScriptFault}
 use Rattle.knox_verify.specs.Judgements.{Parts, design, hints, Narrow, Agrees, Undecides, IsTooWide}
-use Rattle.knox_verify.specs.Meanings.{InForm}
+use Rattle.knox_verify.specs.Meanings.{Means, LacksCall, LacksForm}
 
 -- the first text that is over the limit
 abbrev pub first_long : Bytes → Bytes → Bytes → Bytes → Bytes → Option Letter
@@ -19,10 +21,10 @@ first_long c s d e h =
     if nat_lt limit (length c) then Some C else if nat_lt limit (length s) then Some S else if nat_lt limit (length d) then Some D
     else if nat_lt limit (length e) then Some E else if nat_lt limit (length h) then Some H else None
 
--- where there is one it is refused, and else no text is
+-- where there is one it is refused, and else no text is too long
 abbrev pub RefusesLong : Option Letter → Result Verdict VerifyFault → Type 0
 RefusesLong (Some letter) r = r ≡ Err (Text letter TooLong)
-RefusesLong None (Err (Text letter why)) = ⊥
+RefusesLong None (Err (Text letter TooLong)) = ⊥
 RefusesLong None r = Unit {0}
 
 -- what a verdict says of parts
@@ -40,10 +42,33 @@ Decided (TooWide hint bits) p = IsTooWide p hint.0 bits
 -- What a verdict says of the five texts, those that a shelf gave: it says it of the parts that the texts mean.
 pub record Judges (v : Verdict) (c s d e h : Bytes) : Type 0 where
   pub parts : Parts
-  pub form : InForm c s d e h parts
+  pub meant : Means c s d e h parts
   pub judged : JudgesParts v parts
 
--- where the fault is that the texts are in no form that is built, they are in none
-abbrev pub IsNoForm : Bytes → Bytes → Bytes → Bytes → Bytes → VerifyFault → Type 0
-IsNoForm c s d e h NotYet = (p : Parts) → InForm c s d e h p → ⊥
-IsNoForm c s d e h fault = Unit {0}
+-- What a refusal says of the five texts. `NotYet`: they mean nothing in a form that is built, and no text is in the form but for what is missing there.
+-- That a text is too long is said by `RefusesLong`.
+abbrev pub Explains : (c s d e h : Bytes) → VerifyFault → Type 0
+Explains c s d e h NotYet =
+    ((p : Parts) → Means c s d e h p → ⊥) × ((f : LangFault) → LacksCall c s d f → ⊥) × ((f : ScriptFault) → LacksForm c s d e h f → ⊥)
+Explains c s d e h (Text D (Lang f)) = LacksCall c s d f
+Explains c s d e h (Text H (Script f)) = LacksForm c s d e h f
+Explains c s d e h (Text letter TooLong) = Unit {0}
+Explains c s d e h (Text letter why) = ⊥
+Explains c s d e h Memory = Unit {0}
+
+-- what a refusal says that names a text: one of a driver's text, one of a text of hints, or one of either; where no text is too long
+abbrev pub NamesDriver : (LangFault → Type 0) → VerifyFault → Type 0
+NamesDriver call (Text D (Lang f)) = call f
+NamesDriver call (Text letter why) = ⊥
+NamesDriver call _ = Unit {0}
+
+abbrev pub NamesScript : (ScriptFault → Type 0) → VerifyFault → Type 0
+NamesScript form (Text H (Script f)) = form f
+NamesScript form (Text letter why) = ⊥
+NamesScript form _ = Unit {0}
+
+abbrev pub Names : (LangFault → Type 0) → (ScriptFault → Type 0) → VerifyFault → Type 0
+Names call form (Text D (Lang f)) = call f
+Names call form (Text H (Script f)) = form f
+Names call form (Text letter why) = ⊥
+Names call form _ = Unit {0}

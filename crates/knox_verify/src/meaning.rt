@@ -1,7 +1,6 @@
 //! From five texts to what they mean: each text is read by its language's own definition, and
 //! parts that don't fit each other are in no form.
-ghost use Rattle.std.specs.Prelude.{◌≡◌, ◌≤◌, length, List, Some, IfOk, IfErr};
-ghost use Rattle.knox_theory.specs.Closed.{StartsRefined};
+ghost use Rattle.std.specs.Prelude.{◌≡◌, ◌≤◌, ◌⊎◌, length, List, Some, IfOk, IfErr};
 ghost use Rattle.knox_text.specs.Places.{start_of, end_of};
 ghost use Rattle.knox_sexpr.specs.declared.tree.Tree.{Tree};
 ghost use Rattle.knox_sexpr.specs.Grammar.{Means};
@@ -15,18 +14,23 @@ ghost use Rattle.lang_read.specs.Specifications.{spec_text};
 ghost use Rattle.lang_read.specs.Drivers.{driver_text};
 ghost use Rattle.lang_read.specs.Emulators.{emulator_text};
 ghost use Rattle.script_read.specs.Scripts.{script_text};
-ghost use Rattle.knox_verify.specs.declared.verdict.VerifyFault.TheVariants.{Memory};
-ghost use Rattle.knox_verify.specs.Judgements.{parts_of, design, hints};
-ghost use Rattle.knox_verify.specs.Meanings.{Reads, MeansDevice};
+ghost use Rattle.expr_read.specs.declared.faults.LangFault.{LangFault};
+ghost use Rattle.script_read.specs.declared.fault.ScriptFault.{ScriptFault};
+ghost use Rattle.knox_verify.specs.declared.verdict.Letter.TheVariants.{D, H};
+ghost use Rattle.knox_verify.specs.declared.verdict.TextWhy.TheVariants.{Lang, Script};
+ghost use Rattle.knox_verify.specs.declared.verdict.VerifyFault.TheVariants.{Text, Memory};
+ghost use Rattle.knox_verify.specs.Meanings.{Reads, MeansDevice, Refuses, CallMissing, FormMissing, LacksCall};
+ghost use Rattle.knox_verify.specs.Verdicts.{NamesDriver, NamesScript};
 ghost use Rattle.knox_verify.specs.Faults.{IsNoText};
 
+use crate::unbuilt::{driver_fault, script_fault};
 use crate::verdict::VerifyFault;
 use emu_machine::Device;
 use knox_circuit::Circuit;
 use knox_lang::{DriverProgram, EmuProgram, SpecProgram};
 use knox_sexpr::Tree;
 use knox_text::{Place, end_place};
-use script_core::{Script, starts_refined};
+use script_core::Script;
 use sqlite_items::Items;
 use std::alloc::Global;
 
@@ -75,12 +79,15 @@ fn driver_of(
     requires { length d.now ≤ 67108864 }
     ensures meant { IfOk result (λ driver. Reads (driver_text circuit.now spec.now) d.now driver) }
     ensures only { (p : DriverParts) → Reads (driver_text circuit.now spec.now) d.now p → IfErr result (λ f. f ≡ Memory) }
-    ensures fault { IfErr result IsNoText }
+    ensures lacks { (g : LangFault) → Refuses CallMissing (driver_text circuit.now spec.now) d.now g → IfErr result (λ f. (f ≡ Memory) ⊎ (f ≡ Text D (Lang g))) }
+    ensures fault { IfErr result (NamesDriver (Refuses CallMissing (driver_text circuit.now spec.now) d.now)) }
 {
     knox_sexpr::one_meaning();
     let text = parse(alloc, d)?;
-    let driver = lang_read::read_driver(alloc, text.trees.as_slice(), text.end, circuit, spec)?;
-    Ok(driver)
+    match lang_read::read_driver(alloc, text.trees.as_slice(), text.end, circuit, spec) {
+        Ok(driver) => Ok(driver),
+        Err(fault) => Err(driver_fault(fault)),
+    }
 }
 
 /// The emulator that a text means for a circuit, a specification and a driver.
@@ -114,8 +121,9 @@ fn circuit_of(alloc: Global, c: &[u8]) -> Result<Circuit, VerifyFault>
     Ok(circuit)
 }
 
-/// The device that four texts of at most 64 MiB mean. `NotYet` comes where they mean none in a form
-/// that is built.
+/// The device that four texts of at most 64 MiB mean. `Text` comes where a driver's text is in the
+/// form but for a call that is missing, at its first parenthesis, and `NotYet` where the texts mean
+/// no device in a form that is built else.
 pub fn device_of(
     alloc: Global,
     c: &[u8],
@@ -129,7 +137,8 @@ pub fn device_of(
     requires e { length e.now ≤ 67108864 }
     ensures meant { IfOk result (λ dev. MeansDevice c.now s.now d.now e.now dev.circuit dev.spec dev.driver dev.emulator) }
     ensures only { (circuit : Circuit) (spec : SpecParts) (driver : DriverParts) (emulator : EmuParts) → MeansDevice c.now s.now d.now e.now circuit spec driver emulator → IfErr result (λ f. f ≡ Memory) }
-    ensures fault { IfErr result IsNoText }
+    ensures lacks { (g : LangFault) → LacksCall c.now s.now d.now g → IfErr result (λ f. (f ≡ Memory) ⊎ (f ≡ Text D (Lang g))) }
+    ensures fault { IfErr result (NamesDriver (LacksCall c.now s.now d.now)) }
 {
     knox_sexpr::one_meaning();
     let circuit = circuit_of(alloc, c)?;
@@ -142,32 +151,19 @@ pub fn device_of(
     }
 }
 
-/// The script that a text means for a device.
-fn read_hints(alloc: Global, dev: &Device, h: &[u8]) -> Result<Script, VerifyFault>
-    requires { length h.now ≤ 67108864 }
-    ensures meant { IfOk result (λ script. Reads (script_text dev.now.circuit dev.now.spec dev.now.driver dev.now.emulator) h.now script) }
-    ensures only { (p : ScriptParts) → Reads (script_text dev.now.circuit dev.now.spec dev.now.driver dev.now.emulator) h.now p → IfErr result (λ f. f ≡ Memory) }
-    ensures fault { IfErr result IsNoText }
-{
-    knox_sexpr::one_meaning();
-    let text = parse(alloc, h)?;
-    let script = script_read::read_script(alloc, text.trees.as_slice(), text.end, dev)?;
-    Ok(script)
-}
-
-/// The script that a text means for a device, whose `refine` holds as the device leaves the factory.
+/// The script that a text means for a device. `Text` comes where it is in the form but for a form of
+/// hints that is missing, at its end.
 pub(crate) fn script_of(alloc: Global, dev: &Device, h: &[u8]) -> Result<Script, VerifyFault>
     requires { length h.now ≤ 67108864 }
     ensures meant { IfOk result (λ script. Reads (script_text dev.now.circuit dev.now.spec dev.now.driver dev.now.emulator) h.now script) }
-    ensures starts { IfOk result (λ script. StartsRefined (design (parts_of dev.now script)) (hints (parts_of dev.now script))) }
-    ensures only { (p : ScriptParts) → Reads (script_text dev.now.circuit dev.now.spec dev.now.driver dev.now.emulator) h.now p → StartsRefined (design (parts_of dev.now p)) (hints (parts_of dev.now p)) → IfErr result (λ f. f ≡ Memory) }
-    ensures fault { IfErr result IsNoText }
+    ensures only { (p : ScriptParts) → Reads (script_text dev.now.circuit dev.now.spec dev.now.driver dev.now.emulator) h.now p → IfErr result (λ f. f ≡ Memory) }
+    ensures lacks { (g : ScriptFault) → Refuses FormMissing (script_text dev.now.circuit dev.now.spec dev.now.driver dev.now.emulator) h.now g → IfErr result (λ f. (f ≡ Memory) ⊎ (f ≡ Text H (Script g))) }
+    ensures fault { IfErr result (NamesScript (Refuses FormMissing (script_text dev.now.circuit dev.now.spec dev.now.driver dev.now.emulator) h.now)) }
 {
     knox_sexpr::one_meaning();
-    let script = read_hints(alloc, dev, h)?;
-    if starts_refined(alloc, dev, &script)? {
-        Ok(script)
-    } else {
-        Err(VerifyFault::NotYet)
+    let text = parse(alloc, h)?;
+    match script_read::read_script(alloc, text.trees.as_slice(), text.end, dev) {
+        Ok(script) => Ok(script),
+        Err(fault) => Err(script_fault(fault)),
     }
 }

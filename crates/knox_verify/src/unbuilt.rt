@@ -1,9 +1,10 @@
 //! Faults of texts as faults of the verifier: until the languages stand whole, a text that isn't
-//! read is one of a form that isn't built.
+//! read is one of a form that isn't built, unless nothing is wrong but that a form is missing.
 ghost use Rattle.std.specs.Prelude.{◌≡◌};
 ghost use Rattle.knox_verify.specs.declared.verdict.VerifyFault.TheVariants.{Memory};
+ghost use Rattle.knox_verify.specs.Faults.{of_driver, of_script};
 
-use crate::verdict::VerifyFault;
+use crate::verdict::{Letter, TextWhy, VerifyFault};
 use knox_circuit::{BtorFault, Why};
 use knox_sexpr::SexprFault;
 use lang_read::{LangFault, LangWhy};
@@ -57,15 +58,24 @@ impl From<LangFault> for VerifyFault {
     }
 }
 
-impl From<ScriptFault> for VerifyFault {
-    ghost use Rattle.knox_verify.specs.Faults.{of_script};
+/// The fault of a driver's text: a call that is missing has its place.
+pub(crate) fn driver_fault(fault: LangFault) -> VerifyFault
+    ensures { result ≡ of_driver fault }
+{
+    match fault.why {
+        LangWhy::Memory => VerifyFault::Memory,
+        LangWhy::Missing => VerifyFault::Text(Letter::D, TextWhy::Lang(fault)),
+        _ => VerifyFault::NotYet,
+    }
+}
 
-    ghost from_gives = { λ f fault. fault ≡ of_script f.why };
-
-    fn from(fault: ScriptFault) -> VerifyFault {
-        match fault.why {
-            ScriptWhy::Memory => VerifyFault::Memory,
-            _ => VerifyFault::NotYet,
-        }
+/// The fault of a text of hints: a form that is missing has its place.
+pub(crate) fn script_fault(fault: ScriptFault) -> VerifyFault
+    ensures { result ≡ of_script fault }
+{
+    match fault.why {
+        ScriptWhy::Memory => VerifyFault::Memory,
+        ScriptWhy::Missing => VerifyFault::Text(Letter::H, TextWhy::Script(fault)),
+        _ => VerifyFault::NotYet,
     }
 }

@@ -1,5 +1,7 @@
 //! Verdicts on five texts.
+use lang_read::LangFault;
 use script_core::{Choices, HintNo};
+use script_read::ScriptFault;
 
 /// A text of a verify command: its circuit, specification, driver, emulator or hint text.
 #[derive(Clone, Copy, Debug, PartialEq, Eq)]
@@ -16,6 +18,10 @@ pub enum Letter {
 pub enum TextWhy {
     /// It has more than 67,108,864 bytes.
     TooLong,
+    /// This fault of a driver's text: for now only that a call is missing.
+    Lang(LangFault),
+    /// This fault of a text of hints: for now only that a form is missing.
+    Script(ScriptFault),
 }
 
 /// Why five texts got no verdict.
@@ -23,7 +29,7 @@ pub enum TextWhy {
 pub enum VerifyFault {
     /// This text has a fault.
     Text(Letter, TextWhy),
-    /// A text is in no form that is built yet.
+    /// A text is in no form that is built yet, and has no fault that is told yet.
     NotYet,
     /// Memory ran out. This says nothing of the texts.
     Memory,

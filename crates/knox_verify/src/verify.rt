@@ -1,10 +1,14 @@
 //! The verifier: five texts get their meaning, and then the script is decided segment by segment.
-ghost use Rattle.std.specs.Prelude.{◌≡◌, ◌≤◌, length, IfOk, IfErr};
-ghost use Rattle.knox_verify.specs.declared.verdict.VerifyFault.TheVariants.{Memory};
-ghost use Rattle.knox_verify.specs.Verdicts.{first_long, RefusesLong, Judges, Decided, IsNoForm};
+ghost use Rattle.std.specs.Prelude.{◌≡◌, ◌≤◌, ◌⊎◌, length, IfOk, IfErr};
+ghost use Rattle.expr_read.specs.declared.faults.LangFault.{LangFault};
+ghost use Rattle.script_read.specs.declared.fault.ScriptFault.{ScriptFault};
+ghost use Rattle.script_core.specs.Hints.{ops_of};
+ghost use Rattle.knox_verify.specs.declared.verdict.Letter.TheVariants.{D, H};
+ghost use Rattle.knox_verify.specs.declared.verdict.TextWhy.TheVariants.{Lang, Script};
+ghost use Rattle.knox_verify.specs.declared.verdict.VerifyFault.TheVariants.{Text, Memory};
+ghost use Rattle.knox_verify.specs.Verdicts.{first_long, RefusesLong, Judges, Decided, Explains, Names};
 ghost use Rattle.knox_verify.specs.Judgements.{Parts, parts_of};
-ghost use Rattle.knox_verify.specs.Meanings.{InForm};
-ghost use Rattle.knox_verify.specs.Faults.{IsNoText};
+ghost use Rattle.knox_verify.specs.Meanings.{Means, LacksCall, LacksForm};
 
 use crate::meaning::{device_of, script_of};
 use crate::verdict::{Letter, TextWhy, Verdict, VerifyFault};
@@ -17,6 +21,7 @@ const LIMIT: usize = 67_108_864;
 
 /// Decides a script, segment after segment. The first one that is falsified or too wide decides.
 fn decide(alloc: Global, dev: &Device, sc: &Script) -> Result<Verdict, VerifyFault>
+    requires of { length dev.now.spec.ops ≡ ops_of sc.now }
     ensures decided { IfOk result (λ v. Decided v (parts_of dev.now sc.now)) }
     ensures memory { IfErr result (λ f. f ≡ Memory) }
 {
@@ -45,15 +50,17 @@ fn verify_short(
     requires e { length e.now ≤ 67108864 }
     requires h { length h.now ≤ 67108864 }
     ensures judged { IfOk result (λ v. Judges v c.now s.now d.now e.now h.now) }
-    ensures form { (p : Parts) → InForm c.now s.now d.now e.now h.now p → IfErr result (λ f. f ≡ Memory) }
-    ensures fault { IfErr result IsNoText }
+    ensures only { (p : Parts) → Means c.now s.now d.now e.now h.now p → IfErr result (λ f. f ≡ Memory) }
+    ensures call { (g : LangFault) → LacksCall c.now s.now d.now g → IfErr result (λ f. (f ≡ Memory) ⊎ (f ≡ Text D (Lang g))) }
+    ensures form { (g : ScriptFault) → LacksForm c.now s.now d.now e.now h.now g → IfErr result (λ f. (f ≡ Memory) ⊎ (f ≡ Text H (Script g))) }
+    ensures fault { IfErr result (Names (LacksCall c.now s.now d.now) (LacksForm c.now s.now d.now e.now h.now)) }
 {
     knox_sexpr::one_meaning();
     let dev = device_of(alloc, c, s, d, e)?;
     let script = script_of(alloc, &dev, h)?;
-    emu_machine::devices_are_designs(&dev);
+    device_design::devices_are_designs(&dev);
     script_core::scripts_are_formed(&script);
-    knox_theory::closed_implies_agreement_on_wires::<()>();
+    script_read::texts_mean_scripts();
     let verdict = decide(alloc, &dev, &script)?;
     Ok(verdict)
 }
@@ -71,7 +78,7 @@ pub fn verify_texts(
     _paths: u32,
 ) -> Result<Verdict, VerifyFault>
     ensures judged { IfOk result (λ v. Judges v c.now s.now d.now e.now h.now) }
-    ensures not_yet { IfErr result (IsNoForm c.now s.now d.now e.now h.now) }
+    ensures refused { IfErr result (Explains c.now s.now d.now e.now h.now) }
     ensures too_long { RefusesLong (first_long c.now s.now d.now e.now h.now) result }
 {
     if c.len() > LIMIT {

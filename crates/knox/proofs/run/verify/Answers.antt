@@ -1,8 +1,8 @@
 use Rattle.std.proofs.Common.{◌≡◌, sym, subst}
 use Rattle.std.specs.Result.{IfOk, IfErr}
 use Rattle.knox.specs.Reading.{texts_of}
-use Rattle.knox.specs.declared.judging.Unjudged.TheVariants.{NotYet}
-use Rattle.knox.specs.Verdicts.{JudgesTexts, InNoForm}
+use Rattle.knox.specs.Runs.{UnjudgesTexts}
+use Rattle.knox.specs.Verdicts.{JudgesTexts}
 use Rattle.knox.proofs.Verified.{drop-given, Verifies-judged}
 use Rattle.knox.proofs.run.verify.Goals as goal
 
@@ -12,4 +12,4 @@ returns-in-Ok g c =
     let given = drop-given _ _ _ c.in-Ok.first whole c.in-Ok.ensures.1 in
     Verifies-judged _ _ _ c.judge.result c.judged.result c.judged.ensures whole
     (subst (λ es. IfOk c.judge.result (λ v. JudgesTexts v (texts_of es))) given c.judge.ensures.judged)
-    (subst (λ es. IfErr c.judge.result (λ why. why ≡ NotYet → InNoForm (texts_of es))) given c.judge.ensures.not_yet)
+    (subst (λ es. IfErr c.judge.result (λ why. UnjudgesTexts why (texts_of es))) given c.judge.ensures.unjudged)
