@@ -34,8 +34,12 @@ pub(crate) const SPEC: &[u8] = b"\
  (op check ((g 4)) 1 (result (eq g secret))))\n\
 ";
 
-/// Its driver, for the wires alone.
-pub(crate) const DRIVER: &[u8] = b"(driver (persistent secret))";
+/// Its driver, which drives both operations over the wires.
+pub(crate) const DRIVER: &[u8] = b"\
+(driver (persistent secret)\n\
+ (call set (in cmd (bv 2 1)) (in data v) (tick) (result #b1))\n\
+ (call check (in cmd (bv 2 2)) (in data g) (tick) (result (out ok))))\n\
+";
 
 /// Its emulator, which asks the specification.
 pub(crate) const EMULATOR: &[u8] = b"\
@@ -61,19 +65,25 @@ pub(crate) const ANSWERING_EMULATOR: &[u8] = b"\
 /// Hints that close.
 pub(crate) const HINTS: &[u8] = b"\
 (refine (eq (s secret) (c secret)))\n\
+(idle (eq (s secret) (c secret)))\n\
 (wire\n\
  (cut A (and (eq (s secret) (c secret)) (eq (c ok) (e ok))))\n\
  (step 1)\n\
  (subsume A))\n\
+(factory) (boot-host) (rest) (wait)\n\
+(call set) (call check)\n\
 ";
 
 /// Hints whose cut doesn't say that circuit and emulator show the same.
 pub(crate) const WEAK_HINTS: &[u8] = b"\
 (refine (eq (s secret) (c secret)))\n\
+(idle (eq (s secret) (c secret)))\n\
 (wire\n\
  (cut A (eq (s secret) (c secret)))\n\
  (step 1)\n\
  (subsume A))\n\
+(factory) (boot-host) (rest) (wait)\n\
+(call set) (call check)\n\
 ";
 
 /// The circuit shows whether its secret is another than 0, and never `ok`.
@@ -144,6 +154,13 @@ pub(crate) const WIDE_EMULATOR: &[u8] = b"\
   (assign ok r)))\n\
 ";
 
+/// Its driver.
+pub(crate) const WIDE_DRIVER: &[u8] = b"\
+(driver (persistent secret)\n\
+ (call set (in cmd (bv 4 1)) (in data v) (tick) (result #b1))\n\
+ (call check (in cmd (bv 4 2)) (in data g) (tick) (result (out ok))))\n\
+";
+
 /// Two outputs with one symbol, which names the first.
 pub(crate) const TWO_OUTPUTS: &[u8] = b"\
 1 sort bitvec 1\n\
@@ -203,14 +220,22 @@ pub(crate) const TORN_EMULATOR: &[u8] = b"\
 (emulator (tick (local q 1) (if (in set) ((query q set (in h) (in l))) ())))\n\
 ";
 
+/// Its driver, which waits for the high bit.
+pub(crate) const TORN_DRIVER: &[u8] = b"\
+(driver (persistent high low)\n\
+ (call set (in set #b1) (in h h) (in l l) (tick) (in set #b0) (tick) (result #b1)))\n\
+";
+
 /// Hints whose cut holds again after each tick, while `refine` is broken by one that sets.
 pub(crate) const TORN_HINTS: &[u8] = b"\
 (refine (and (eq (s high) (c high)) (eq (s low) (c low))))\n\
+(idle (and (not (c pending)) (and (eq (s high) (c high)) (eq (s low) (c low)))))\n\
 (wire\n\
  (cut A (and (eq (s low) (c low))\n\
   (ite (c pending) (eq (s high) (c next)) (eq (s high) (c high)))))\n\
  (step 1)\n\
  (subsume A))\n\
+(factory) (boot-host) (rest) (wait) (call set)\n\
 ";
 
 /// Five texts.

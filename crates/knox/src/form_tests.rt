@@ -24,7 +24,7 @@ type Edit = (Which, &'static [u8], &'static [u8]);
 /// The last line of the circuit.
 pub(crate) const LAST: &[u8] = b"21 output 12 ok\n";
 
-const CIRCUITS: [&[u8]; 16] = [
+const CIRCUITS: [&[u8]; 15] = [
     // A width over 8, a sort and constants that are not of the form.
     b"22 sort bitvec 9\n",
     b"22 sort array 1 1\n",
@@ -39,16 +39,15 @@ const CIRCUITS: [&[u8]; 16] = [
     b"21 sort bitvec 3\n",
     b"20 sort bitvec 3\n",
     b"22 redor 1 23\n",
-    // Operands of two widths, a second symbol, and states without `init` or `next`.
+    // Operands of two widths, a second symbol, a state without `next`, and a second `next`.
     b"22 eq 1 8 10\n",
     b"22 zero 1 a b\n",
-    b"22 state 1 x\n23 next 1 22 22\n",
     b"22 state 1 x\n23 init 1 22 4\n",
     b"22 next 3 10 10\n",
 ];
 
 /// Edits that leave the form.
-const OUTSIDE: [Edit; 37] = [
+const OUTSIDE: [Edit; 39] = [
     (Which::S, b"secret 4 0)", b"secret 4 16)"),
     (Which::S, b"secret 4 0)", b"secret 4 0) (field x 9 0)"),
     (Which::S, b"secret 4 0)", b"secret 4 0) (field secret 4 0)"),
@@ -92,12 +91,8 @@ const OUTSIDE: [Edit; 37] = [
         b"(persistent secret)",
         b"(persistent secret) (call set (result #b1))",
     ),
-    // A driver that drives: worlds with a host are not built yet.
-    (
-        Which::D,
-        b"(persistent secret)",
-        b"(persistent secret) (call set (result #b1)) (call check (result #b1))",
-    ),
+    (Which::D, b"(in cmd (bv 2 1))", b"(in cmd v)"),
+    (Which::D, b"(tick)", b"(tick v)"),
     (Which::E, b"(field ok 1 0)", b"(copy) (field ok 1 0)"),
     (Which::E, b"(outputs (ok ok))", b"(outputs (ok ok) (ok ok))"),
     (Which::E, b"(outputs (ok ok))", b"(outputs (no ok))"),
@@ -125,15 +120,12 @@ const OUTSIDE: [Edit; 37] = [
     (
         Which::H,
         b"(refine (eq (s secret) (c secret)))",
-        b"(refine #b0)",
-    ),
-    (
-        Which::H,
-        b"(refine (eq (s secret) (c secret)))",
         b"(refine (not (c ok)))",
     ),
-    (Which::H, b"(refine (eq (s secret) (c secret)))", b""),
     (Which::H, b"(wire", b"(idle #b1) (wire"),
+    (Which::H, b"(wait)", b"(wait) (wait)"),
+    (Which::H, b"(call set)", b"(call set) (call set)"),
+    (Which::H, b"(call set)", b"(call set (run 1))"),
     (Which::H, b"(cut A ", b"(label B) (cut A "),
 ];
 
@@ -159,7 +151,7 @@ const INSIDE: [Edit; 18] = [
     (
         Which::D,
         b"(persistent secret)",
-        b"(persistent secret) (idle (cmd 1))",
+        b"(persistent secret) (idle (data 5) (cmd 3))",
     ),
     (Which::E, b"(ok ok)", b"(@21 ok)"),
     (Which::E, b"(outputs (ok ok))", b"(power) (outputs (ok ok))"),

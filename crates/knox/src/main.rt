@@ -15,6 +15,10 @@ mod driver_tests;
 mod emulator_tests;
 #[cfg(test)]
 mod form_tests;
+#[cfg(test)]
+mod host_devices;
+#[cfg(test)]
+mod host_tests;
 mod judging;
 mod outcome;
 mod reading;

@@ -1,6 +1,4 @@
 //! Runs of the PIN store's segments by the program, each beside the end that the definitions give: the same rows are computed in `pin_store`.
-ghost use Rattle.std.specs.Prelude.{◌<◌};
-
 use crate::devices::SMALL;
 use crate::form_tests::{LAST, edited};
 use emu_machine::Device;
@@ -179,7 +177,6 @@ fn script(alloc: Global, dev: &Device, cut: &[u8]) -> Result<Script, Fail> {
 
 /// The end of the run of a row, in the segment of `wire` or in that of the cut.
 fn end_of(alloc: Global, row: &Row, segment: SegmentNo) -> Result<ScriptEnd, Fail>
-    requires { segment.0 < 2 }
 {
     let (last, cut, pairs, _) = row;
     let dev = store(alloc, last)?;

@@ -1,7 +1,8 @@
 //! Verdicts on small devices, and texts that are outside the form.
 use crate::devices::{
-    ANSWERING_EMULATOR, LEAKING, SMALL, TORN, TORN_EMULATOR, TORN_HINTS, TORN_SPEC, TWO_OUTPUTS,
-    TWO_STATES, Texts, WEAK_HINTS, WIDE_CIRCUIT, WIDE_EMULATOR, WIDE_SPEC,
+    ANSWERING_EMULATOR, LEAKING, SMALL, TORN, TORN_DRIVER, TORN_EMULATOR, TORN_HINTS, TORN_SPEC,
+    TWO_OUTPUTS, TWO_STATES, Texts, WEAK_HINTS, WIDE_CIRCUIT, WIDE_DRIVER, WIDE_EMULATOR,
+    WIDE_SPEC,
 };
 use crate::status::Status;
 use crate::trial::verify;
@@ -45,6 +46,7 @@ const CASES: [Case; 8] = [
         Texts {
             c: WIDE_CIRCUIT,
             s: WIDE_SPEC,
+            d: WIDE_DRIVER,
             e: WIDE_EMULATOR,
             ..SMALL
         },
@@ -58,7 +60,7 @@ const CASES: [Case; 8] = [
             s: b"(spec)",
             d: b"(driver)",
             e: b"(emulator (outputs (o #b1)))",
-            h: b"(refine #b1) (wire (cut A #b1) (step 1) (subsume A))",
+            h: b"(refine #b1) (idle #b1) (wire (cut A #b1) (step 1) (subsume A)) (factory) (boot-host) (rest) (wait)",
         },
         Status::Undecided,
         b"undecided 3\nchoices\n",
@@ -70,7 +72,7 @@ const CASES: [Case; 8] = [
             s: b"(spec)",
             d: b"(driver (persistent m))",
             e: b"(emulator (field r 1 0) (outputs (q r)) (tick (assign r (in d))))",
-            h: b"(refine #b1) (wire (cut A (eq (c @4) (e r))) (step 1) (subsume A))",
+            h: b"(refine #b1) (idle #b1) (wire (cut A (eq (c @4) (e r))) (step 1) (subsume A)) (factory) (boot-host) (rest) (wait)",
         },
         Status::Undecided,
         b"undecided 2\nchoices 1\n",
@@ -80,7 +82,7 @@ const CASES: [Case; 8] = [
         Texts {
             c: TORN,
             s: TORN_SPEC,
-            d: b"(driver (persistent high low))",
+            d: TORN_DRIVER,
             e: TORN_EMULATOR,
             h: TORN_HINTS,
         },
@@ -105,7 +107,7 @@ fn verdicts_and_their_lines(rt: HostRuntime) -> Result<(), Fail> {
 fn a_text_outside_the_form(rt: HostRuntime) -> Result<(), Fail> {
     let alloc = rt.alloc();
     let texts = Texts {
-        h: b"(refine #b1)",
+        h: b"(refine #b1) (refine #b1)",
         ..SMALL
     };
     let ran = verify(alloc, texts, Vec::new(alloc))?;
