@@ -5,6 +5,5 @@ pub mod Reaching
 pub mod Projections
 pub mod Walking
 pub mod Rooted
-pub mod Starting
 pub mod Deciding
 pub mod Bits

@@ -1,6 +1,6 @@
 use Rattle.std.proofs.Common.{arith}
 use Rattle.script_core.proofs.Counting.{kept-more}
-use Rattle.script_core.proofs.widths.bits_of_kept.Goals as goal
+use Rattle.script_core.proofs.bits.bits_of_kept.Goals as goal
 
 pub loop-cell-preserved : goal.loop-cell-preserved
 loop-cell-preserved c = (
