@@ -12,7 +12,7 @@ use Rattle.knox_lang.specs.declared.parts.Fun.{Fun}
 use Rattle.knox_lang.specs.declared.parts.SpecParts.{SpecParts}
 use Rattle.knox_lang.specs.declared.parts.DriverParts.{DriverParts}
 use Rattle.knox_lang.specs.declared.parts.EmuParts.{EmuParts}
-use Rattle.emu_machine.specs.Meaning.{design_of}
+use Rattle.device_design.specs.Meaning.{design_of}
 use Rattle.script_core.specs.declared.parts.HintNo.{HintNo}
 use Rattle.script_core.specs.declared.parts.Act.{Act}
 use Rattle.script_core.specs.declared.parts.Act.TheVariants as act

@@ -4,6 +4,7 @@ pub mod Formed
 pub mod Reaching
 pub mod Projections
 pub mod Walking
+pub mod Hosting
 pub mod Rooted
 pub mod Deciding
 pub mod Bits

@@ -1,7 +1,7 @@
 use Rattle.std.proofs.Common.{◌≡◌, ◌≤◌, Some, true, false, refl, subst, sym, ◌∙◌, arith}
 use Rattle.knox_words.specs.Bits.{IsWord, bits}
 use Rattle.knox_theory.specs.Searched.{wants}
-use Rattle.emu_machine.specs.Meaning.{design_of}
+use Rattle.device_design.specs.Meaning.{design_of}
 use Rattle.script_core.specs.Hints.{script_of}
 use Rattle.script_core.proofs.Deciding.{course_in, wanted, wanted-fits, failed, over, no-word, left-less, taken-whole, all-tried}
 use Rattle.script_core.proofs.decide.+search.Goals as goal
