@@ -219,7 +219,7 @@ pub record IsIn (h w : ℕ) (ss : List Section) : Type 0 where
   pub from : h ≤ w
   pub upto : w + 4 ≤ h + hint_count ss
 
-next-count : (all : List Section) (h : ℕ) (s : Section) (ss : List Section) → Numbered all h s → hint_count (s ∷ ss) ≡ own_hints s.kind + hint_count ss
+pub next-count : (all : List Section) (h : ℕ) (s : Section) (ss : List Section) → Numbered all h s → hint_count (s ∷ ss) ≡ own_hints s.kind + hint_count ss
 next-count all h s ss n = ap (λ z. z + hint_count ss) n.count
 
 pub wire-in : (all : List Section) (h : ℕ) (ss : List Section) → Are all h ss → stands_in Wire ss ≡ true → IsIn h (hint_of_kind Wire all) ss
@@ -241,7 +241,7 @@ wire-in all h (s ∷ ss) a there = by_side (side s.kind) (λ t. wire-in all (h +
         record { from = omega (arith, from); upto = omega (arith, upto, whole) }
 
 -- THE COUNTS
-host-roots : (k : Kind) (ss : List Section) → is_wire k ≡ false → roots_of k ++ roots ss ≡ OfKind k ∷ roots ss
+pub host-roots : (k : Kind) (ss : List Section) → is_wire k ≡ false → roots_of k ++ roots ss ≡ OfKind k ∷ roots ss
 host-roots k ss e = ap (λ b. (if b then OfKind k ∷ OfCut ∷ [] else OfKind k ∷ []) ++ roots ss) e
 
 pub count-without : (all : List Section) (h : ℕ) (ss : List Section) → Are all h ss → stands_in Wire ss ≡ false → hint_count ss ≡ length (roots ss)

@@ -227,7 +227,10 @@ module _ (c : Circuit) (s : SpecParts) (d : DriverParts) (e : EmuParts) (p : Scr
   scripted = record {
     paced = ap is_paced wire-is;
     locs = subst (λ z. HasLocations D z) (sym wire-is) tt;
-    call_locs = λ h is o lt. let same : Some H ≡ Some h = sym host-is ∙ is in subst (λ z. HasCallLocations D o (z.calls o)) (cc same) tt;
+    call_locs = λ h is o lt.
+        let some : Some H ≡ Some h = sym host-is ∙ is in
+        let same : H ≡ h = cc some in
+        subst (λ (z : HostSections Left). HasCallLocations D o (z.calls o)) same tt;
   }
 
   -- a subsume of the cut's hint holds where the cut's condition does, and any other never
@@ -237,3 +240,37 @@ module _ (c : Circuit) (s : SpecParts) (d : DriverParts) (e : EmuParts) (p : Scr
       by_test : (b : Bool) → passed m (if b then ToCut hold else Absent) q ≡ (if b then hold q.state else false)
       by_test true = refl
       by_test false = refl
+
+
+  -- the segment of a hint: of the host's sections, whose hints are numbered from h on
+  host-find : (h m : ℕ) (g : Segment) (gs : List Segment) → g.hints ≡ h ∷ [] → h ≤ m → (suc h ≤ m → segment_of m gs ≡ slice_get gs (m - suc h)) → segment_of m (g ∷ gs) ≡ slice_get (g ∷ gs) (m - h)
+  host-find h m g gs hints le more = ap (λ hs. if is_hint_of m hs then Some g else segment_of m gs) hints ∙ by_test (m == h) refl
+    where
+      by_test : (b : Bool) → m == h ≡ b → (if (if b then true else false) then Some g else segment_of m gs) ≡ slice_get (g ∷ gs) (m - h)
+      by_test true t =
+          let zero_at : m - h ≡ 0 = grind (arith, t) in
+          sym (ap (slice_get (g ∷ gs)) zero_at)
+      by_test false t =
+          let later : suc h ≤ m = grind (arith, t, le) in
+          let next : m - h ≡ suc (m - suc h) = omega (arith, later) in
+          more later ∙ sym (ap (slice_get (g ∷ gs)) next)
+
+  found-without : (h m : ℕ) (ss : List Section) → Are p.sections h ss → stands_in Wire ss ≡ false → h ≤ m → segment_of m (segs (roots ss)) ≡ slice_get (segs (roots ss)) (m - h)
+  found-without h m [] a none le = refl
+  found-without h m (x ∷ ss) a none le = by_side (side x.kind) (λ t l. found-without (h + own_hints x.kind) m ss a.1 t l)
+    where
+      by_side : Side x.kind → (stands_in Wire ss ≡ false → h + own_hints x.kind ≤ m → segment_of m (segs (roots ss)) ≡ slice_get (segs (roots ss)) (m - (h + own_hints x.kind))) →
+          segment_of m (segs (roots (x ∷ ss))) ≡ slice_get (segs (roots (x ∷ ss))) (m - h)
+      by_side (OnWire is) go =
+          let there : true ≡ false = sym (ap (λ b. if b then true else stands_in Wire ss) (same-of Wire x.kind (sym is))) ∙ none in
+          cc
+      by_side (OnHost no_wire) go =
+          let one : own_hints x.kind ≡ 1 = ap (λ b. if b then 4 else 1) no_wire in
+          let next : h + own_hints x.kind ≡ suc h = omega (arith, one) in
+          let nothing = sym (ap (λ b. if b then true else stands_in Wire ss) (host-not x.kind no_wire)) ∙ none in
+          let more : suc h ≤ m → segment_of m (segs (roots ss)) ≡ slice_get (segs (roots ss)) (m - suc h) =
+          λ l. go nothing (omega (arith, one, l)) ∙ ap (λ n. slice_get (segs (roots ss)) (m - n)) next in
+          ap (segment_of m) (host-segs x ss no_wire)
+          ∙ (host-find h m (seg (OfKind x.kind)) (segs (roots ss)) (host-hints x.kind no_wire ∙ ap (λ n. n ∷ []) a.0.told) le more
+          ∙ sym (ap (λ gs. slice_get gs (m - h)) (host-segs x ss no_wire)))
+
