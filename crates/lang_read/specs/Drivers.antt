@@ -3,7 +3,7 @@
 -- order. Each operation has one call. The languages aren't read whole yet, so that a call may stand
 -- in a form that isn't read: one that is missing is told where all else is read, and no fault stands
 -- behind it.
-use Rattle.std.specs.Prelude.{ℕ, suc, ◌==◌, Bool, true, false, if◌then◌else◌, List, [], ◌∷◌, map, reverse, codes, Result, Ok}
+use Rattle.std.specs.Prelude.{◌≡◌, ℕ, suc, ◌==◌, Bool, true, false, if◌then◌else◌, List, [], ◌∷◌, map, reverse, codes, Result, Ok}
 use Rattle.knox_text.specs.declared.place.Place.{Place}
 use Rattle.knox_sexpr.specs.declared.tree.Tree.{Tree}
 use Rattle.knox_words.specs.Bits.{Bits, bits, is_word, word_or}
@@ -135,3 +135,16 @@ driver_of c s t more = do
 abbrev pub driver_text : Circuit → SpecParts → Place → List Tree → Result DriverParts LangFault
 driver_text c s end [] = fails end Form
 driver_text c s end (t ∷ ts) = driver_of c s t ts
+
+-- ---- a call that is missing
+
+-- trees are one driver, whose list is at a place, and all of it is read but for the call of some operation
+pub record LacksCall (c : Circuit) (s : SpecParts) (ts : List Tree) (at : Place) : Type 0 where
+  pub tree : Tree
+  pub alone : ts ≡ tree ∷ []
+  pub place : at ≡ place_of tree
+  pub inner : List Tree
+  pub begins : behind_head (codes "driver") tree ≡ Ok inner
+  pub parts : DriverParts
+  pub read : driver_in c s.ops inner ≡ Ok parts
+  pub lacking : all_called s.ops inner ≡ false
