@@ -107,7 +107,6 @@ fn own_hints(kind: Kind) -> u64
 }
 
 /// Whether sections and items are numbered from 1 on, and each section has the items that it needs.
-#[tactic(auto, using(crate::proofs::Formed::numbering))]
 fn are_numbered(sections: &[Section]) -> bool
     ensures { result ≡ are_numbered 1 sections.now }
 {
@@ -141,7 +140,6 @@ fn stands_in(kind: Kind, sections: &[Section]) -> bool
 }
 
 /// Whether a device with so many operations has a kind.
-#[tactic(auto, using(crate::proofs::Kinds::known))]
 fn is_known(kind: Kind, ops: usize) -> bool
     ensures { result ≡ is_among kind (kinds ops) }
 {
@@ -170,12 +168,17 @@ fn are_apart(ops: usize, sections: &[Section]) -> bool
 }
 
 /// Whether there is one section of each kind that a device with so many operations has.
-#[tactic(auto, using(crate::proofs::Kinds::each_once))]
 fn are_of(ops: usize, sections: &[Section]) -> bool
     ensures { result ≡ are_of sections.now (Some (kinds ops)) }
 {
     let count = sections.len();
-    count >= 5 && count - 5 == ops && are_apart(ops, sections)
+    if count < 5 {
+        return false;
+    }
+    if count - 5 != ops {
+        return false;
+    }
+    are_apart(ops, sections)
 }
 
 /// The hint of the first section of a kind.
