@@ -241,7 +241,6 @@ module _ (c : Circuit) (s : SpecParts) (d : DriverParts) (e : EmuParts) (p : Scr
       by_test true = refl
       by_test false = refl
 
-
   -- the segment of a hint: of the host's sections, whose hints are numbered from h on
   host-find : (h m : ℕ) (g : Segment) (gs : List Segment) → g.hints ≡ h ∷ [] → h ≤ m → (suc h ≤ m → segment_of m gs ≡ slice_get gs (m - suc h)) → segment_of m (g ∷ gs) ≡ slice_get (g ∷ gs) (m - h)
   host-find h m g gs hints le more = ap (λ hs. if is_hint_of m hs then Some g else segment_of m gs) hints ∙ by_test (m == h) refl
@@ -273,4 +272,3 @@ module _ (c : Circuit) (s : SpecParts) (d : DriverParts) (e : EmuParts) (p : Scr
           ap (segment_of m) (host-segs x ss no_wire)
           ∙ (host-find h m (seg (OfKind x.kind)) (segs (roots ss)) (host-hints x.kind no_wire ∙ ap (λ n. n ∷ []) a.0.told) le more
           ∙ sym (ap (λ gs. slice_get gs (m - h)) (host-segs x ss no_wire)))
-
