@@ -1,5 +1,5 @@
 -- The bits of each segment as sums over the device's words.
-use Rattle.std.proofs.Common.{◌≡◌, ◌∙◌, ℕ, ◌+◌, ◌*◌, List, [], ◌∷◌, Some, slice_get, refl, ap, sym, arith}
+use Rattle.std.proofs.Common.{◌≡◌, ◌∙◌, ℕ, ◌+◌, ◌*◌, List, [], ◌∷◌, Some, slice_get, ◌⊎◌, inl, inr, refl, ap, sym, arith}
 use Rattle.knox_words.specs.Lists.{total}
 use Rattle.knox_theory.specs.Segments.{widest}
 use Rattle.knox_circuit.specs.Circuit.{cells_of, state_widths, input_widths}
@@ -11,6 +11,7 @@ use Rattle.device_design.specs.Meaning.{design_of, device_of, head_args}
 use Rattle.script_core.specs.declared.parts.Act.{Act}
 use Rattle.script_core.specs.declared.parts.Act.TheVariants as act
 use Rattle.script_core.specs.declared.parts.Item.{Item}
+use Rattle.script_core.specs.declared.parts.Kind.{Kind}
 use Rattle.script_core.specs.declared.parts.Kind.TheVariants.{Factory, BootHost, Rest, Wait, Call, Wire}
 use Rattle.script_core.specs.declared.parts.Root.TheVariants.{OfCut}
 use Rattle.script_core.specs.declared.parts.ScriptParts.{ScriptParts}
@@ -56,12 +57,14 @@ module _ (v : Device) where
     unfolding design_of device_of
     boot-counted r e = e ∙ ap counted (omega arith)
 
-    pub rest-counted : (r : ℕ) → r ≡ counted (total (word_widths v.spec.init) + total (state_widths (cells_of v.circuit.lines))) → r ≡ counted (kind_bits v p Rest)
+    rest-counted : (r : ℕ) → r ≡ counted (total (word_widths v.spec.init) + total (state_widths (cells_of v.circuit.lines))) → r ≡ counted (kind_bits v p Rest)
     unfolding design_of device_of
     rest-counted r e = e ∙ ap counted (omega arith)
 
-    pub wait-counted : (r : ℕ) → r ≡ counted (total (word_widths v.spec.init) + total (state_widths (cells_of v.circuit.lines))) → r ≡ counted (kind_bits v p Wait)
-    wait-counted r e = rest-counted r e
+    -- of `rest` and `wait`
+    pub idle-counted : (k : Kind) (r : ℕ) → (k ≡ Rest) ⊎ (k ≡ Wait) → r ≡ counted (total (word_widths v.spec.init) + total (state_widths (cells_of v.circuit.lines))) → r ≡ counted (kind_bits v p k)
+    idle-counted k r (inl is) e = rest-counted r e ∙ ap (λ j. counted (kind_bits v p j)) (sym is)
+    idle-counted k r (inr is) e = rest-counted r e ∙ ap (λ j. counted (kind_bits v p j)) (sym is)
 
     pub call-counted : (o r : ℕ) → r ≡ counted ((total (word_widths v.spec.init) + total (state_widths (cells_of v.circuit.lines))) + total (head_args (slice_get v.spec.ops o))) → r ≡ counted (kind_bits v p (Call o))
     unfolding design_of device_of
