@@ -146,7 +146,7 @@ tells-on all s ss apart tells k there =
     by_test true e = let both : true ≡ false = sym there ∙ (ap (λ z. stands_in z ss) (same-is k s.kind e) ∙ apart) in both
     by_test false e = refl
 
-not-true : (b : Bool) → not b ≡ true → b ≡ false
+pub not-true : (b : Bool) → not b ≡ true → b ≡ false
 not-true true e = cc
 not-true false e = refl
 
@@ -161,9 +161,10 @@ are-all all ks h (s ∷ ss) tells apart e =
     let alone = not-true (stands_in s.kind ss) (and-left (not (stands_in s.kind ss)) _ apart1) in
     let here : hint_of_kind s.kind all ≡ s.hint.0 =
     tells s.kind (ap (λ b. if b then true else stands_in s.kind ss) (same-self s.kind)) ∙ ap (λ b. if b then s.hint.0 else hint_of_kind s.kind ss) (same-self s.kind) in
-    let more : are_numbered (h + own_hints s.kind) ss ≡ true = ap (λ n. are_numbered (h + n) ss) (sym items.count) ∙ and-right (items_fit s.kind h s.items) _ rest in
-    (record { own = own; told = here ∙ own; count = items.count; last = ap (λ z. last_item_hint z s.items + 1) own ∙ items.last },
-    are-all all ks (h + own_hints s.kind) ss (tells-on all s ss alone tells) (and-right (not (stands_in s.kind ss)) _ apart1) more)
+    let more : are_numbered (h + own_hints s.kind) ss ≡ true = ap (λ n. are_numbered (h + n) ss) (sym items.count) ∙ and-right (items_fit s.kind h s.items) _ rest in (
+      record { own = own; told = here ∙ own; count = items.count; last = ap (λ z. last_item_hint z s.items + 1) own ∙ items.last },
+      are-all all ks (h + own_hints s.kind) ss (tells-on all s ss alone tells) (and-right (not (stands_in s.kind ss)) _ apart1) more,
+    )
 
 -- the items of `wire` are those of its section
 wire-loop : (h : ℕ) (ss : List Section) → are_numbered h ss ≡ true → stands_in Wire ss ≡ true → LoopOf (hint_of_kind Wire ss) (items_of_kind Wire ss)
@@ -298,3 +299,25 @@ formed-for n p is fits = formed n p (fits-for n p is fits)
 -- the code's count of hints
 pub count-of-hints : (p : ScriptParts) → script_fits (ops_of p) p ≡ true → last_hint 0 p.sections ≡ hint_count p.sections
 count-of-hints p fits = let all = last-counts p.sections 1 0 p.sections (omega arith) (formed (ops_of p) p fits).are in omega (arith, all)
+
+pub segments-counted : (p : ScriptParts) → script_fits (ops_of p) p ≡ true → hint_count p.sections ≡ length (roots p.sections) + 2
+segments-counted p fits = let f = formed (ops_of p) p fits in count-with p.sections (kinds (ops_of p)) 1 p.sections f.are f.apart f.wire
+
+-- the hint of `wire` is one, and the segments of all hints are there
+pub wire-counts : (p : ScriptParts) → script_fits (ops_of p) p ≡ true → 1 ≤ hint_of_kind Wire p.sections
+wire-counts p fits = let f = formed (ops_of p) p fits in (wire-in p.sections 1 p.sections f.are f.wire).from
+
+below : (w m n : ℕ) → 1 ≤ w → w + 4 ≤ 1 + (n + 2) → m ≤ n + 2 → segment_number w m < n
+below w m n one upto le = by_tests (nat_le m w) refl (nat_le m (w + 2)) refl
+  where
+    by_tests : (low : Bool) → nat_le m w ≡ low → (mid : Bool) → nat_le m (w + 2) ≡ mid → (if low then m - 1 else if mid then m - 2 else m - 3) < n
+    by_tests true t mid u = let lower : m ≤ w = grind (arith, t) in omega (arith, one, upto, lower)
+    by_tests false t true u = let lower : m ≤ w + 2 = grind (arith, u) in omega (arith, one, upto, lower)
+    by_tests false t false u = let above : w + 2 < m = grind (arith, u) in omega (arith, one, upto, above, le)
+
+pub number-below : (p : ScriptParts) → script_fits (ops_of p) p ≡ true → (m : ℕ) → m ≤ hint_count p.sections → segment_number (hint_of_kind Wire p.sections) m < length (roots p.sections)
+number-below p fits m le =
+    let f = formed (ops_of p) p fits in
+    let all = segments-counted p fits in
+    let upto : hint_of_kind Wire p.sections + 4 ≤ 1 + hint_count p.sections = (wire-in p.sections 1 p.sections f.are f.wire).upto in
+    below (hint_of_kind Wire p.sections) m (length (roots p.sections)) (wire-counts p fits) (omega (arith, all, upto)) (omega (arith, all, le))

@@ -1,10 +1,11 @@
 -- The segments of a script in the order of the text, and what is read off them: courses, bits, hints, and the segment of a hint.
-use Rattle.std.proofs.Common.{◌≡◌, ◌∙◌, ℕ, zero, suc, ◌+◌, ◌-◌, ◌<◌, ◌≤◌, ◌==◌, ◌&&◌, not, nat_le, nat_lt, Option, Some, None, List, [], ◌∷◌, ◌++◌, length, slice_get, Bool, true, false, if◌then◌else◌, refl, ap, sym, subst, append_assoc, arith}
+use Rattle.std.proofs.Common.{◌≡◌, ◌∙◌, ℕ, zero, suc, ◌+◌, ◌-◌, ◌<◌, ◌≤◌, ◌==◌, ◌&&◌, not, nat_le, nat_lt, Option, Some, None, List, [], ◌∷◌, ◌++◌, length, slice_get, Bool, true, false, if◌then◌else◌, refl, ap, sym, subst, eqb-true, arith}
 use Rattle.knox_theory.specs.Design.{Design}
 use Rattle.knox_theory.specs.Script.{State, Place, WireItems, Step, Cut, Subsume, HostSections, Script, is_paced, HasLocations, HasCallLocations, IsScript}
 use Rattle.knox_theory.specs.WireSegments.{wire_course, subsumes, passed, find, never, wire_places, ToCut, Absent}
 use Rattle.knox_theory.specs.Segments.{Segment, factory_segment, boot_host_segment, rest_segment, wait_segment, call_segment, call_segments, wire_segment, cut_segment, cut_segments, host_segments, all_segments, item_hints, in_order, segments}
 use Rattle.knox_theory.specs.Closed.{all_hints, all_differ, is_hint_of, segment_of}
+use Rattle.knox_theory.proofs.Basics.{and-left, and-right}
 use Rattle.knox_circuit.specs.Circuit.{Circuit}
 use Rattle.knox_lang.specs.declared.expr.Expr.{Expr}
 use Rattle.knox_lang.specs.declared.parts.Fun.{Fun}
@@ -19,12 +20,13 @@ use Rattle.script_core.specs.declared.parts.Root.{Root}
 use Rattle.script_core.specs.declared.parts.Root.TheVariants.{OfKind, OfCut}
 use Rattle.script_core.specs.declared.parts.Section.{Section}
 use Rattle.script_core.specs.declared.parts.ScriptParts.{ScriptParts}
-use Rattle.script_core.specs.Hints.{seen, holds, items_of, host_of, script_of, is_wire, call_kinds, kinds, hint_of_kind, wire_items, hint_count, roots_of, roots}
-use Rattle.script_core.specs.Forms.{own_hints, stands_in, segment_number}
-use Rattle.script_core.specs.Runs.{segments_of}
+use Rattle.script_core.specs.Hints.{seen, holds, items_of, host_of, script_of, is_wire, call_kinds, kinds, hint_of_kind, wire_items, hint_count, roots_of, roots, root_at}
+use Rattle.script_core.specs.Forms.{is_among, stands_in, are_apart, own_hints, first_hint, segment_number}
+use Rattle.script_core.specs.Reached.{root_hint}
+use Rattle.script_core.specs.Runs.{segments_of, hint_at}
 use Rattle.script_core.proofs.EachKind.{same-of}
 use Rattle.script_core.proofs.Ordered.{Rising, blocks, along, in-text-order}
-use Rattle.script_core.proofs.Formed.{Formed, Are, Numbered, Side, OnWire, OnHost, side, behind, host-not, next-count}
+use Rattle.script_core.proofs.Formed.{Formed, Are, Numbered, Side, OnWire, OnHost, side, behind, host-not, not-true, next-count, wire-in}
 
 -- what a cut's condition says of a state
 abbrev pub cut_holds : List Fun → Expr → State → Bool
@@ -241,20 +243,18 @@ module _ (c : Circuit) (s : SpecParts) (d : DriverParts) (e : EmuParts) (p : Scr
       by_test true = refl
       by_test false = refl
 
-
-  -- the segment of a hint: of the host's sections, whose hints are numbered from h on
-  host-find : (h m : ℕ) (g : Segment) (gs : List Segment) → g.hints ≡ h ∷ [] → h ≤ m → (suc h ≤ m → segment_of m gs ≡ slice_get gs (m - suc h)) → segment_of m (g ∷ gs) ≡ slice_get (g ∷ gs) (m - h)
-  host-find h m g gs hints le more = ap (λ hs. if is_hint_of m hs then Some g else segment_of m gs) hints ∙ by_test (m == h) refl
+  -- THE SEGMENT OF A HINT. A segment of the host's sections has one hint
+  host-find : (h m place next : ℕ) (g : Segment) (gs : List Segment) → g.hints ≡ h ∷ [] → h ≤ m → (m ≡ h → place ≡ 0) → (suc h ≤ m → place ≡ suc next) → (suc h ≤ m → segment_of m gs ≡ slice_get gs next) →
+      segment_of m (g ∷ gs) ≡ slice_get (g ∷ gs) place
+  host-find h m place next g gs hints le here there more = ap (λ hs. if is_hint_of m hs then Some g else segment_of m gs) hints ∙ by_test (m == h) refl
     where
-      by_test : (b : Bool) → m == h ≡ b → (if (if b then true else false) then Some g else segment_of m gs) ≡ slice_get (g ∷ gs) (m - h)
-      by_test true t =
-          let zero_at : m - h ≡ 0 = grind (arith, t) in
-          sym (ap (slice_get (g ∷ gs)) zero_at)
+      by_test : (b : Bool) → m == h ≡ b → (if (if b then true else false) then Some g else segment_of m gs) ≡ slice_get (g ∷ gs) place
+      by_test true t = sym (ap (slice_get (g ∷ gs)) (here (eqb-true m h t)))
       by_test false t =
           let later : suc h ≤ m = grind (arith, t, le) in
-          let next : m - h ≡ suc (m - suc h) = omega (arith, later) in
-          more later ∙ sym (ap (slice_get (g ∷ gs)) next)
+          more later ∙ sym (ap (slice_get (g ∷ gs)) (there later))
 
+  -- behind `wire` they stand by their numbers
   found-without : (h m : ℕ) (ss : List Section) → Are p.sections h ss → stands_in Wire ss ≡ false → h ≤ m → segment_of m (segs (roots ss)) ≡ slice_get (segs (roots ss)) (m - h)
   found-without h m [] a none le = refl
   found-without h m (x ∷ ss) a none le = by_side (side x.kind) (λ t l. found-without (h + own_hints x.kind) m ss a.1 t l)
@@ -271,6 +271,107 @@ module _ (c : Circuit) (s : SpecParts) (d : DriverParts) (e : EmuParts) (p : Scr
           let more : suc h ≤ m → segment_of m (segs (roots ss)) ≡ slice_get (segs (roots ss)) (m - suc h) =
           λ l. go nothing (omega (arith, one, l)) ∙ ap (λ n. slice_get (segs (roots ss)) (m - n)) next in
           ap (segment_of m) (host-segs x ss no_wire)
-          ∙ (host-find h m (seg (OfKind x.kind)) (segs (roots ss)) (host-hints x.kind no_wire ∙ ap (λ n. n ∷ []) a.0.told) le more
+          ∙ (host-find h m (m - h) (m - suc h) (seg (OfKind x.kind)) (segs (roots ss)) (host-hints x.kind no_wire ∙ ap (λ n. n ∷ []) a.0.told) le (λ e. omega (arith, e)) (λ l. omega (arith, l)) more
           ∙ sym (ap (λ gs. slice_get gs (m - h)) (host-segs x ss no_wire)))
 
+  -- where the segment of a hint stands, from h on: `wire` has two hints before its cut, and the cut two
+  abbrev place : (h m : ℕ) (low mid : Bool) → ℕ
+  place h m low mid = if low then m - h else if mid then m - (h + 1) else m - (h + 2)
+
+  abbrev place_of : (h m : ℕ) → ℕ
+  place_of h m = place h m (nat_le m w) (nat_le m (w + 2))
+
+  first-place : (h m : ℕ) → h < w → m ≡ h → place_of h m ≡ 0
+  first-place h m lt e =
+      let low : nat_le m w ≡ true = grind (arith, lt, e) in
+      let zero_at : m - h ≡ 0 = omega (arith, e) in
+      ap (λ b. place h m b (nat_le m (w + 2))) low ∙ zero_at
+
+  next-place : (h m : ℕ) → h < w → suc h ≤ m → place_of h m ≡ suc (place_of (suc h) m)
+  next-place h m lt le = by_tests (nat_le m w) refl (nat_le m (w + 2)) refl
+    where
+      by_tests : (low : Bool) → nat_le m w ≡ low → (mid : Bool) → nat_le m (w + 2) ≡ mid → place h m low mid ≡ suc (place (suc h) m low mid)
+      by_tests true t mid u = omega (arith, le)
+      by_tests false t true u = let above : w < m = grind (arith, t) in omega (arith, lt, above)
+      by_tests false t false u = let above : w + 2 < m = grind (arith, u) in omega (arith, lt, above)
+
+  -- the hints of the two segments of `wire`, as tests
+  abbrev look : (gs : List Segment) (m : ℕ) (t0 t1 t2 t3 : Bool) → Option Segment
+  look gs m t0 t1 t2 t3 =
+      if (if t0 then true else (if t1 then true else false)) then Some (seg (OfKind Wire))
+      else (if (if t2 then true else (if t3 then true else false)) then Some (seg OfCut) else segment_of m gs)
+
+  looked : (gs : List Segment) (m : ℕ) → segment_of m (seg (OfKind Wire) ∷ seg OfCut ∷ gs) ≡ look gs m (m == w) (m == w + 1) (m == w + 2) (m == w + 3)
+  looked gs m = ap (λ hs. if is_hint_of m hs then Some (seg (OfKind Wire)) else segment_of m (seg OfCut ∷ gs)) wire-hints
+
+  wire-find : (m : ℕ) (gs : List Segment) → w ≤ m → (w + 4 ≤ m → segment_of m gs ≡ slice_get gs (m - (w + 4))) →
+      segment_of m (seg (OfKind Wire) ∷ seg OfCut ∷ gs) ≡ slice_get (seg (OfKind Wire) ∷ seg OfCut ∷ gs) (place_of w m)
+  wire-find m gs le more = looked gs m ∙ by_tests (m == w) refl (m == w + 1) refl (m == w + 2) refl (m == w + 3) refl
+    where
+      all : List Segment
+      all = seg (OfKind Wire) ∷ seg OfCut ∷ gs
+
+      stands : (low mid : Bool) (n : ℕ) → nat_le m w ≡ low → nat_le m (w + 2) ≡ mid → place w m low mid ≡ n → slice_get all (place_of w m) ≡ slice_get all n
+      stands low mid n t u e = ap (slice_get all) ((λ i. place w m (t i) (u i)) ∙ e)
+
+      by_tests : (t0 : Bool) → m == w ≡ t0 → (t1 : Bool) → m == w + 1 ≡ t1 → (t2 : Bool) → m == w + 2 ≡ t2 → (t3 : Bool) → m == w + 3 ≡ t3 → look gs m t0 t1 t2 t3 ≡ slice_get all (place_of w m)
+      by_tests true e0 t1 e1 t2 e2 t3 e3 = let at : m ≡ w = eqb-true m w e0 in sym (stands true true 0 (grind (arith, at)) (grind (arith, at)) (omega (arith, at)))
+      by_tests false e0 true e1 t2 e2 t3 e3 = let at : m ≡ w + 1 = eqb-true m (w + 1) e1 in sym (stands false true 0 (grind (arith, at)) (grind (arith, at)) (omega (arith, at)))
+      by_tests false e0 false e1 true e2 t3 e3 = let at : m ≡ w + 2 = eqb-true m (w + 2) e2 in sym (stands false true 1 (grind (arith, at)) (grind (arith, at)) (omega (arith, at)))
+      by_tests false e0 false e1 false e2 true e3 = let at : m ≡ w + 3 = eqb-true m (w + 3) e3 in sym (stands false false 1 (grind (arith, at)) (grind (arith, at)) (omega (arith, at)))
+      by_tests false e0 false e1 false e2 false e3 =
+          let high : w + 4 ≤ m = grind (arith, le, e0, e1, e2, e3) in
+          more high ∙ sym (stands false false (suc (suc (m - (w + 4)))) (grind (arith, high)) (grind (arith, high)) (omega (arith, high)))
+
+  found-with : (ks : List Kind) (h m : ℕ) (ss : List Section) → Are p.sections h ss → are_apart ks ss ≡ true → stands_in Wire ss ≡ true → h ≤ m → segment_of m (segs (roots ss)) ≡ slice_get (segs (roots ss)) (place_of h m)
+  found-with ks h m [] a apart there le = cc
+  found-with ks h m (x ∷ ss) a apart there le = by_side (side x.kind) (λ t l. found-with ks (h + own_hints x.kind) m ss a.1 (and-right (not (stands_in x.kind ss)) _ (and-right (is_among x.kind ks) _ apart)) t l)
+    where
+      alone : stands_in x.kind ss ≡ false
+      alone = not-true (stands_in x.kind ss) (and-left (not (stands_in x.kind ss)) _ (and-right (is_among x.kind ks) _ apart))
+
+      by_side : Side x.kind → (stands_in Wire ss ≡ true → h + own_hints x.kind ≤ m → segment_of m (segs (roots ss)) ≡ slice_get (segs (roots ss)) (place_of (h + own_hints x.kind) m)) →
+          segment_of m (segs (roots (x ∷ ss))) ≡ slice_get (segs (roots (x ∷ ss))) (place_of h m)
+      by_side (OnWire is) go =
+          let at : w ≡ h = ap (λ k. hint_of_kind k p.sections) (sym is) ∙ a.0.told in
+          let four : own_hints x.kind ≡ 4 = ap own_hints is in
+          let next : h + own_hints x.kind ≡ w + 4 = omega (arith, at, four) in
+          let rest = found-without (h + own_hints x.kind) m ss a.1 (ap (λ k. stands_in k ss) (sym is) ∙ alone) in
+          let more : w + 4 ≤ m → segment_of m (segs (roots ss)) ≡ slice_get (segs (roots ss)) (m - (w + 4)) = λ l. rest (omega (arith, next, l)) ∙ ap (λ n. slice_get (segs (roots ss)) (m - n)) next in
+          ap (segment_of m) (wire-segs x ss is)
+          ∙ (wire-find m (segs (roots ss)) (omega (arith, at, le)) more
+          ∙ (λ i. slice_get (sym (wire-segs x ss is) i) (place_of (at i) m)))
+      by_side (OnHost no_wire) go =
+          let one : own_hints x.kind ≡ 1 = ap (λ b. if b then 4 else 1) no_wire in
+          let next : h + own_hints x.kind ≡ suc h = omega (arith, one) in
+          let later = sym (ap (λ b. if b then true else stands_in Wire ss) (host-not x.kind no_wire)) ∙ there in
+          let from = (wire-in p.sections (h + own_hints x.kind) ss a.1 later).from in
+          let lt : h < w = omega (arith, from, one) in
+          let more : suc h ≤ m → segment_of m (segs (roots ss)) ≡ slice_get (segs (roots ss)) (place_of (suc h) m) =
+          λ l. go later (omega (arith, one, l)) ∙ ap (λ n. slice_get (segs (roots ss)) (place_of n m)) next in
+          ap (segment_of m) (host-segs x ss no_wire)
+          ∙ (host-find h m (place_of h m) (place_of (suc h) m) (seg (OfKind x.kind)) (segs (roots ss)) (host-hints x.kind no_wire ∙ ap (λ n. n ∷ []) a.0.told) le (first-place h m lt) (next-place h m lt) more
+          ∙ sym (ap (λ gs. slice_get gs (place_of h m)) (host-segs x ss no_wire)))
+
+  pub segment-found : (m : ℕ) → 1 ≤ m → segment_of m (segments_of c s d e p) ≡ slice_get (segments_of c s d e p) (segment_number w m)
+  segment-found m le =
+      ap (segment_of m) segments-are
+      ∙ (found-with (kinds (length s.ops)) 1 m p.sections f.are f.apart f.wire le
+      ∙ sym (ap (λ gs. slice_get gs (segment_number w m)) segments-are))
+
+  -- THE HINT of a segment's section or cut
+  seg-hint : (r : Root) → (seg r).hint ≡ root_hint p (Some r)
+  seg-hint (OfKind k) = kind-hint k
+  seg-hint OfCut = refl
+
+  hints-of : (rs : List Root) (g : ℕ) → hint_at (segs rs) g ≡ root_hint p (slice_get rs g)
+  hints-of [] g = refl
+  hints-of (r ∷ rs) zero = seg-hint r
+  hints-of (r ∷ rs) (suc g) = hints-of rs g
+
+  pub segment-hint : (g : ℕ) → hint_at (segments_of c s d e p) g ≡ root_hint p (root_at p g)
+  segment-hint g = ap (λ gs. hint_at gs g) segments-are ∙ hints-of (roots p.sections) g
+
+  -- that of the cut is the first one in `wire`
+  pub cut-hint : first_hint (wire_items p) ≡ w + 1
+  cut-hint = ap first_hint f.items

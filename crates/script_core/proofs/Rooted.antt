@@ -19,7 +19,7 @@ use Rattle.script_core.specs.Runs.{segments_of, course_of, course_at, bits_at, h
 use Rattle.script_core.proofs.EachKind.{call-among}
 use Rattle.script_core.proofs.Formed.{Formed, formed, behind, Side, OnWire, OnHost, side, host-roots}
 use Rattle.script_core.proofs.Listing as listing
-use Rattle.script_core.proofs.Listing.{cut_holds, seg, segs, kind-hint, segments-are, segment-count}
+use Rattle.script_core.proofs.Listing.{cut_holds, seg, segs, segments-are, segment-count, segment-hint}
 
 module _ (v : Device) (p : ScriptParts) (f : Formed (length v.spec.ops) p) where
   cut-condition : first_cut (wire_items p) ≡ Some f.condition
@@ -50,10 +50,6 @@ module _ (v : Device) (p : ScriptParts) (f : Formed (length v.spec.ops) p) where
   seg-bits (OfKind Wire) = ap (wire_bits (design v)) wire-meant
   seg-bits OfCut = sym (ap (λ is. cut_bits (design v) (items_of v.spec.funs is)) behind-is)
 
-  seg-hint : (r : Root) → (seg v.circuit v.spec v.driver v.emulator p f r).hint ≡ root_hint p (Some r)
-  seg-hint (OfKind k) = kind-hint v.circuit v.spec v.driver v.emulator p f k
-  seg-hint OfCut = refl
-
   -- one root after another
   courses : (rs : List Root) (g : ℕ) → course_at (segs v.circuit v.spec v.driver v.emulator p f rs) g ≡ root_course v p (slice_get rs g)
   courses [] g = refl
@@ -64,11 +60,6 @@ module _ (v : Device) (p : ScriptParts) (f : Formed (length v.spec.ops) p) where
   bits [] g = refl
   bits (r ∷ rs) zero = seg-bits r
   bits (r ∷ rs) (suc g) = bits rs g
-
-  hints : (rs : List Root) (g : ℕ) → hint_at (segs v.circuit v.spec v.driver v.emulator p f rs) g ≡ root_hint p (slice_get rs g)
-  hints [] g = refl
-  hints (r ∷ rs) zero = seg-hint r
-  hints (r ∷ rs) (suc g) = hints rs g
 
 -- the kind of a root is among those of the device
 root-among : (ks : List Kind) (ss : List Section) (g : ℕ) (k : Kind) → are_apart ks ss ≡ true → slice_get (roots ss) g ≡ Some (OfKind k) → is_among k ks ≡ true
@@ -106,7 +97,7 @@ module _ (v : Device) (p : ScriptParts) (fits : script_fits (length v.spec.ops) 
   root-bits g = ap (λ gs. bits_at gs g) (segments-are v.circuit v.spec v.driver v.emulator p form) ∙ bits v p form (roots p.sections) g
 
   pub root-hint : (g : ℕ) → hint_at (segments_of v.circuit v.spec v.driver v.emulator p) g ≡ root_hint p (root_at p g)
-  root-hint g = ap (λ gs. hint_at gs g) (segments-are v.circuit v.spec v.driver v.emulator p form) ∙ hints v p form (roots p.sections) g
+  root-hint g = segment-hint v.circuit v.spec v.driver v.emulator p form g
 
   pub root-count : length (segments_of v.circuit v.spec v.driver v.emulator p) ≡ length (roots p.sections)
   root-count = segment-count v.circuit v.spec v.driver v.emulator p form

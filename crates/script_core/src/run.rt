@@ -282,7 +282,7 @@ pub fn run_choices(
     ch: &Choices,
 ) -> Result<ScriptEnd, AllocError>
     requires of { length dev.now.spec.ops ≡ ops_of sc.now }
-    ensures run { IfOk result (λ e. end_said e ≡ run (course_at (segments_of dev.now.circuit dev.now.spec dev.now.driver dev.now.emulator sc.now) g.0) ch.now.words) }
+    ensures { IfOk result (λ e. end_said e ≡ run (course_at (segments_of dev.now.circuit dev.now.spec dev.now.driver dev.now.emulator sc.now) g.0) ch.now.words) }
 {
     let mut room = Room::new(alloc, dev)?;
     let end = run_over(alloc, dev, sc, g, ch.words.as_slice(), &mut room)?;
