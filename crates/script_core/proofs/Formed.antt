@@ -161,9 +161,10 @@ are-all all ks h (s ∷ ss) tells apart e =
     let alone = not-true (stands_in s.kind ss) (and-left (not (stands_in s.kind ss)) _ apart1) in
     let here : hint_of_kind s.kind all ≡ s.hint.0 =
     tells s.kind (ap (λ b. if b then true else stands_in s.kind ss) (same-self s.kind)) ∙ ap (λ b. if b then s.hint.0 else hint_of_kind s.kind ss) (same-self s.kind) in
-    let more : are_numbered (h + own_hints s.kind) ss ≡ true = ap (λ n. are_numbered (h + n) ss) (sym items.count) ∙ and-right (items_fit s.kind h s.items) _ rest in
-    (record { own = own; told = here ∙ own; count = items.count; last = ap (λ z. last_item_hint z s.items + 1) own ∙ items.last },
-    are-all all ks (h + own_hints s.kind) ss (tells-on all s ss alone tells) (and-right (not (stands_in s.kind ss)) _ apart1) more)
+    let more : are_numbered (h + own_hints s.kind) ss ≡ true = ap (λ n. are_numbered (h + n) ss) (sym items.count) ∙ and-right (items_fit s.kind h s.items) _ rest in (
+      record { own = own; told = here ∙ own; count = items.count; last = ap (λ z. last_item_hint z s.items + 1) own ∙ items.last },
+      are-all all ks (h + own_hints s.kind) ss (tells-on all s ss alone tells) (and-right (not (stands_in s.kind ss)) _ apart1) more,
+    )
 
 -- the items of `wire` are those of its section
 wire-loop : (h : ℕ) (ss : List Section) → are_numbered h ss ≡ true → stands_in Wire ss ≡ true → LoopOf (hint_of_kind Wire ss) (items_of_kind Wire ss)

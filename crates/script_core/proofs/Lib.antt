@@ -7,6 +7,7 @@ pub mod Listing
 pub mod Reaching
 pub mod Projections
 pub mod Walking
+pub mod Hosting
 pub mod Rooted
 pub mod Deciding
 pub mod Widest

@@ -6,6 +6,7 @@ mod bits;
 mod decide;
 mod evaluate;
 mod form;
+mod host;
 mod laws;
 mod parts;
 mod room;

@@ -1,19 +1,22 @@
 //! The widths of the words that the runs of a device's segments take.
 ghost use Rattle.std.specs.Prelude.{◌≡◌, ◌^◌, ◌++◌, [], drop, replicate, IfOk, OnOk, if◌then◌else◌};
 ghost use Rattle.knox_circuit.specs.Circuit.{cells_of, state_widths, input_widths};
-ghost use Rattle.knox_circuit.specs.Power.{first_keep, persistent_widths};
+ghost use Rattle.knox_circuit.specs.Power.{first_keep, persistent_widths, states_of, noise_widths};
 ghost use Rattle.knox_circuit.specs.States.{size};
 ghost use Rattle.knox_lang.specs.WellFormed.{word_widths};
 ghost use Rattle.script_core.specs.Widths.{port_widths};
 
 use emu_machine::Device;
-use knox_circuit::{Cell, Port};
+use knox_circuit::{Cell, NoiseCells, Port};
 use knox_words::Word;
 use std::alloc::{AllocError, Global};
 
-/// The widths of a device's words: the specification's fields, the persistent cells, all cells,
-/// the emulator's fields and the inputs, each in order.
+/// The widths of a device's words: the noise words of the factory and of a power-cycle, the
+/// specification's fields, the persistent cells, all cells, the emulator's fields and the inputs,
+/// each in order.
 pub(crate) struct Widths {
+    pub(crate) factory_noise: Vec<u8>,
+    pub(crate) noise: Vec<u8>,
     pub(crate) fields: Vec<u8>,
     pub(crate) persistent: Vec<u8>,
     pub(crate) cells: Vec<u8>,
@@ -24,6 +27,8 @@ pub(crate) struct Widths {
 impl Drop for Widths {
     fn drop(self) {
         let Widths {
+            factory_noise: _factory_noise,
+            noise: _noise,
             fields: _fields,
             persistent: _persistent,
             cells: _cells,
@@ -132,9 +137,33 @@ fn of_kept(alloc: Global, cells: &[Cell], keep: &[bool]) -> Result<Vec<u8>, Allo
     Ok(out)
 }
 
+/// The widths of the words of states that take noise words.
+#[tactic(auto, using(crate::proofs::Widening::widening))]
+fn of_noise_cells(alloc: Global, cells: NoiseCells) -> Result<Vec<u8>, AllocError>
+    ensures { IfOk result (λ ws. ws.items ≡ state_widths cells.entry) }
+{
+    let mut out = Vec::new(alloc);
+    let mut left = cells;
+    while let Some(next) = left.next() {
+        push_cell(&mut out, next.cell)?;
+    }
+    Ok(out)
+}
+
+/// The widths of the noise words of a power-cycle that keeps some cells.
+fn of_noise(alloc: Global, dev: &Device, keep: &[bool]) -> Result<Vec<u8>, AllocError>
+    ensures { IfOk result (λ ws. ws.items ≡ noise_widths (states_of dev.now.circuit.lines) keep.now) }
+{
+    knox_circuit::circuits_have_widths(&dev.circuit);
+    let widths = of_noise_cells(alloc, dev.circuit.noise_walk(keep))?;
+    Ok(widths)
+}
+
 impl Widths {
     /// The widths of a device's words.
     pub(crate) fn of(alloc: Global, dev: &Device) -> Result<Widths, AllocError>
+        ensures factory_noise { IfOk result (λ w. w.factory_noise.items ≡ noise_widths (states_of dev.now.circuit.lines) []) }
+        ensures noise { IfOk result (λ w. w.noise.items ≡ noise_widths (states_of dev.now.circuit.lines) dev.now.driver.keep) }
         ensures fields { IfOk result (λ w. w.fields.items ≡ word_widths dev.now.spec.init) }
         ensures persistent { IfOk result (λ w. w.persistent.items ≡ persistent_widths (cells_of dev.now.circuit.lines) dev.now.driver.keep) }
         ensures cells { IfOk result (λ w. w.cells.items ≡ state_widths (cells_of dev.now.circuit.lines)) }
@@ -143,6 +172,8 @@ impl Widths {
     {
         let cells = dev.circuit.cells();
         Ok(Widths {
+            factory_noise: of_noise(alloc, dev, &[])?,
+            noise: of_noise(alloc, dev, dev.driver.keep())?,
             fields: of_words(alloc, dev.spec.parts().init.as_slice())?,
             persistent: of_kept(alloc, cells, dev.driver.keep())?,
             cells: of_cells(alloc, cells)?,
