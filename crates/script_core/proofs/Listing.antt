@@ -243,7 +243,6 @@ module _ (c : Circuit) (s : SpecParts) (d : DriverParts) (e : EmuParts) (p : Scr
       by_test true = refl
       by_test false = refl
 
-
   -- THE SEGMENT OF A HINT. A segment of the host's sections has one hint
   host-find : (h m place next : ℕ) (g : Segment) (gs : List Segment) → g.hints ≡ h ∷ [] → h ≤ m → (m ≡ h → place ≡ 0) → (suc h ≤ m → place ≡ suc next) → (suc h ≤ m → segment_of m gs ≡ slice_get gs next) →
       segment_of m (g ∷ gs) ≡ slice_get (g ∷ gs) place
