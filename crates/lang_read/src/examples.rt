@@ -8,7 +8,7 @@ ghost use Rattle.expr_read.specs.declared.faults.LangWhy.TheVariants.{Form, Widt
 ghost use Rattle.expr_read.specs.Views.{fails};
 ghost use Rattle.lang_read.specs.Entries.{filled};
 ghost use Rattle.lang_read.specs.Statements.{while_of};
-ghost use Rattle.lang_read.specs.Bodies.{silent, replying};
+ghost use Rattle.lang_read.specs.Bodies.{silent, replying, within};
 ghost use Rattle.lang_read.specs.Drivers.{idle_word, driver_text};
 ghost use Rattle.lang_read.specs.Examples.{no_lines, two_ops, bare, no_list, only_set, bit_of_cost, steps_of_cost, input};
 
@@ -26,8 +26,8 @@ pub fn costs_as_expected()
     ensures turns { (while_of (bit_of_cost 3) 4 (steps_of_cost 10)).cost ≡ 56 }
     ensures no_turn { (while_of (bit_of_cost 3) 0 (steps_of_cost 10)).cost ≡ 4 }
     ensures saturated { (while_of (bit_of_cost 3) 1000000 (steps_of_cost 18446744073709551615)).cost ≡ 18446744073709551615 }
-    ensures dear { replying 10000000 (place 1 9) [] (steps_of_cost 9999999) (bit_of_cost 1) ≡ Ok (record { locals = []; stmts = []; result = Some (Lit (bits 1 1)) }) }
-    ensures too_dear { replying 10000000 (place 1 9) [] (steps_of_cost 10000000) (bit_of_cost 1) ≡ fails (place 1 9) Bound }
+    ensures dear { within 10000000 (place 1 9) (replying [] (steps_of_cost 9999999) (bit_of_cost 1)) ≡ Ok (record { locals = []; stmts = []; result = Some (Lit (bits 1 1)) }) }
+    ensures too_dear { within 10000000 (place 1 9) (replying [] (steps_of_cost 10000000) (bit_of_cost 1)) ≡ fails (place 1 9) Bound }
     ensures silent { silent (place 1 9) [] (steps_of_cost 1000000) ≡ Ok (record { locals = []; stmts = []; result = None }) }
     ensures too_dear_silent { silent (place 1 9) [] (steps_of_cost 1000001) ≡ fails (place 1 9) Bound }
 {}
