@@ -1,20 +1,21 @@
 -- No name and no expression is refused as missing.
-use Rattle.std.proofs.Common.{◌≡◌, ℕ, zero, suc, ◌==◌, ◌&&◌, List, [], ◌∷◌, map, sym, subst, refl, Option, Some, None, Result}
+use Rattle.std.proofs.Common.{◌≡◌, ℕ, zero, suc, ◌==◌, ◌&&◌, List, [], ◌∷◌, map, codes, sym, subst, refl, Option, Some, None, Result}
 use Rattle.std.specs.List.{AllByRecursion}
 use Rattle.knox_text.specs.declared.place.Place.{Place}
 use Rattle.knox_words.specs.Bits.{bits, is_word}
 use Rattle.knox_lang.specs.declared.expr.Space.{Space}
 use Rattle.knox_lang.specs.declared.expr.Space.TheVariants as spaces
-use Rattle.knox_sexpr.specs.declared.tree.Tree.{Tree}
+use Rattle.knox_sexpr.specs.declared.tree.Tree.{Tree, out-Tree}
+use Rattle.knox_sexpr.specs.declared.tree.Tree.TheOpen.{Tree-F}
 use Rattle.knox_sexpr.proofs.Meaning.{by_parts}
 use Rattle.expr_read.specs.declared.expression.Head.{Head}
 use Rattle.expr_read.specs.declared.expression.Head.TheVariants.{Un, Bin, Ite, Bv, Names, Unknown, NoSymbol}
 use Rattle.expr_read.specs.declared.names.Group.{Group}
-use Rattle.expr_read.specs.declared.names.Group.TheVariants.{Plain}
+use Rattle.expr_read.specs.declared.names.Group.TheVariants.{Plain, Copy}
 use Rattle.expr_read.specs.declared.names.Named.{Named}
 use Rattle.expr_read.specs.declared.names.Seen.{Seen}
-use Rattle.expr_read.specs.Views.{◌>>=◌, place_of, number_of, width_of, is_width, symbol_of, parts_of}
-use Rattle.expr_read.specs.Names.{found, seen_at, seen_of, target_in, target_at, target, is_declared, pair, local_in, local, locals, and_last}
+use Rattle.expr_read.specs.Views.{◌>>=◌, place_of, number_of, width_of, is_width, symbol_of, parts_of, is_symbol}
+use Rattle.expr_read.specs.Names.{found, seen_at, seen_of, target_in, target_at, copied, target_level, target, is_declared, pair, local_in, local, locals, and_last}
 use Rattle.expr_read.specs.Expressions.{Part, word, literal, meant, one, two, three, bv_word, bv, named_symbol, named_by_form, applied, head_of, list, part, expr_of, expr_of_width}
 use Rattle.expr_read.proofs.Parts.{part-Atom, part-Number, part-List}
 use Rattle.expr_read.proofs.NotMissing.{NotMissing, and-then, either, all-map, in-each, in-number, in-symbol, in-parts, in-width}
@@ -46,8 +47,19 @@ target-found : (at : Place) (o : Option Seen) → NotMissing (target_at at o)
 target-found at None = refl
 target-found at (Some s) = target-space at s s.slot.space
 
+of-copy : (at : Place) (names : List Named) (ts : List Tree) → NotMissing (copied at names ts)
+of-copy at names [] = refl
+of-copy at names (head ∷ []) = refl
+of-copy at names (head ∷ x ∷ []) = either (is_symbol (codes "k") head) _ _ (in-seen Copy x names) refl
+of-copy at names (head ∷ x ∷ y ∷ ts) = refl
+
+target-shape : (names : List Named) (y : Tree-F Tree) → NotMissing (target_level names y)
+target-shape names (Tree-F.Atom at name) = target-found at (found Plain name None names)
+target-shape names (Tree-F.Number at width value) = refl
+target-shape names (Tree-F.List at parts close) = of-copy at names parts
+
 pub in-target : (t : Tree) (names : List Named) → NotMissing (target t names)
-in-target t names = and-then (symbol_of t) _ (in-symbol t) (λ name. target-found (place_of t) (found Plain name None names))
+in-target t names = target-shape names (out-Tree t)
 
 in-pair : (x w : Tree) (known : List (List ℕ × ℕ)) → NotMissing (pair x w known)
 in-pair x w known = and-then (symbol_of x) _ (in-symbol x) (λ name. either (is_declared name known) _ _ refl (and-then (width_of w) _ (in-width w) (λ width. tt)))

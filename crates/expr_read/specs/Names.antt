@@ -4,7 +4,8 @@ use Rattle.std.specs.Prelude.{ℕ, suc, ◌&&◌, Bool, true, false, if◌then�
 use Rattle.std.specs.Str.{bytes_eq}
 use Rattle.std.specs.Fmt.{decimal}
 use Rattle.knox_text.specs.declared.place.Place.{Place}
-use Rattle.knox_sexpr.specs.declared.tree.Tree.{Tree}
+use Rattle.knox_sexpr.specs.declared.tree.Tree.{Tree, out-Tree}
+use Rattle.knox_sexpr.specs.declared.tree.Tree.TheOpen.{Tree-F}
 use Rattle.knox_circuit.specs.declared.circuit.Port.{Port}
 use Rattle.knox_circuit.specs.declared.circuit.Cell.{Cell}
 use Rattle.knox_lang.specs.declared.expr.Slot.{Slot}
@@ -18,7 +19,7 @@ use Rattle.expr_read.specs.declared.names.Named.{Named}
 use Rattle.expr_read.specs.declared.names.Seen.{Seen}
 use Rattle.expr_read.specs.declared.faults.LangWhy.TheVariants.{Form, UnknownName, Twice}
 use Rattle.expr_read.specs.declared.faults.LangFault.{LangFault}
-use Rattle.expr_read.specs.Views.{◌>>=◌, fails, place_of, width_of, symbol_of, parts_of, each}
+use Rattle.expr_read.specs.Views.{◌>>=◌, fails, place_of, width_of, symbol_of, parts_of, is_symbol, each}
 
 abbrev pub group_of : Space → Group
 group_of spaces.Own = Plain
@@ -67,7 +68,7 @@ seen_at at (Some s) = Ok s
 abbrev pub seen_of : Group → Tree → List Named → Result Seen LangFault
 seen_of group t names = symbol_of t >>= λ name. seen_at (place_of t) (found group name None names)
 
--- the target of a statement: a field or a local
+-- the target of a statement: a field or a local, or `(k x)`, a word of the copy
 abbrev pub target_in : Place → Seen → Space → Result Seen LangFault
 target_in at s spaces.Own = Ok s
 target_in at s spaces.Local = Ok s
@@ -77,8 +78,17 @@ abbrev pub target_at : Place → Option Seen → Result Seen LangFault
 target_at at None = fails at UnknownName
 target_at at (Some s) = target_in at s s.slot.space
 
+abbrev pub copied : Place → List Named → List Tree → Result Seen LangFault
+copied at names (head ∷ x ∷ []) = if is_symbol (codes "k") head then seen_of Copy x names else fails at Form
+copied at names ts = fails at Form
+
+abbrev pub target_level : List Named → Tree-F Tree → Result Seen LangFault
+target_level names (Tree-F.Atom at name) = target_at at (found Plain name None names)
+target_level names (Tree-F.Number at width value) = fails at Form
+target_level names (Tree-F.List at parts close) = copied at names parts
+
 abbrev pub target : Tree → List Named → Result Seen LangFault
-target t names = symbol_of t >>= λ name. target_at (place_of t) (found Plain name None names)
+target t names = target_level names (out-Tree t)
 
 -- the number of the first operation of a name, where the first one has some number
 abbrev pub op_from : ℕ → List ℕ → List OpHead → Option ℕ

@@ -1,11 +1,12 @@
 //! Names in scope, and lists of declared names.
 ghost use Rattle.std.specs.Prelude.{◌≡◌, ◌++◌, ◌∷◌, [], take, Some, None, OnOk};
 ghost use Rattle.knox_lang.specs.declared.expr.Space.TheVariants.{Device};
+ghost use Rattle.expr_read.specs.declared.names.Group.TheVariants.{Plain};
 ghost use Rattle.expr_read.specs.Views.{Gives};
-ghost use Rattle.expr_read.specs.Names.{group_of, is_named, found, seen_of, target_in, target, op_number, is_declared, pair, argument_in, argument, arguments, local_in, local, locals, naming, numbered, field_names, by_name, line_names, port_names, cell_names, word_names, where_marked, marked_names};
+ghost use Rattle.expr_read.specs.Names.{group_of, is_named, found, seen_of, target_in, target_at, copied, target, op_number, is_declared, pair, argument_in, argument, arguments, local_in, local, locals, naming, numbered, field_names, by_name, line_names, port_names, cell_names, word_names, where_marked, marked_names};
 
 use crate::faults::{LangFault, LangWhy, fault};
-use crate::views::{parts_of, place_of, symbol_of, width_of};
+use crate::views::{is_symbol, parts_of, place_of, symbol_of, width_of};
 use knox_circuit::{Cell, Port};
 use knox_lang::{Field, OpHead, Slot, Space};
 use knox_sexpr::Tree;
@@ -116,14 +117,39 @@ fn target_in(at: Place, seen: Seen) -> Result<Seen, LangFault>
     }
 }
 
-/// The word that a tree names as the target of a statement: a field or a local.
+/// The word of a name at the place as the target of a statement.
+fn named_target(at: Place, name: &[u8], names: &[Named]) -> Result<Seen, LangFault>
+    ensures { Gives result (target_at at (found Plain name.now None names.now)) }
+{
+    match find(Group::Plain, name, names) {
+        Some(seen) => target_in(at, seen),
+        None => Err(fault(at, LangWhy::UnknownName)),
+    }
+}
+
+/// The word of the copy that `(k x)` names, whose list is at the place.
+fn copied(at: Place, parts: &[Tree], names: &[Named]) -> Result<Seen, LangFault>
+    ensures { Gives result (copied at names.now parts.now) }
+{
+    match parts {
+        [head, x] => {
+            if !is_symbol(head, b"k") {
+                return Err(fault(at, LangWhy::Form));
+            }
+            seen_of(Group::Copy, x, names)
+        }
+        _ => Err(fault(at, LangWhy::Form)),
+    }
+}
+
+/// The word that a tree names as the target of a statement: a field or a local, or one of the copy.
 pub fn target(tree: &Tree, names: &[Named]) -> Result<Seen, LangFault>
     ensures { Gives result (target tree.now names.now) }
 {
-    let name = symbol_of(tree)?;
-    match find(Group::Plain, name, names) {
-        Some(seen) => target_in(place_of(tree), seen),
-        None => Err(fault(place_of(tree), LangWhy::UnknownName)),
+    match tree {
+        Tree::Atom(at, name) => named_target(*at, name.as_slice(), names),
+        Tree::Number(at, _, _) => Err(fault(*at, LangWhy::Form)),
+        Tree::List(at, parts, _) => copied(*at, parts.as_slice(), names),
     }
 }
 

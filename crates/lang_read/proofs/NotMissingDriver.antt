@@ -22,13 +22,13 @@ use Rattle.expr_read.specs.declared.names.Named.{Named}
 use Rattle.expr_read.specs.declared.names.Seen.{Seen}
 use Rattle.expr_read.specs.Views.{◌>>=◌, fails, place_of, number_of, parts_of, is_headed, behind_head, no_more}
 use Rattle.expr_read.specs.Names.{seen_of, locals, numbered, cell_names, port_names, and_last}
-use Rattle.expr_read.specs.Expressions.{dearer}
+use Rattle.lang_read.specs.declared.body.Priced.{Priced}
 use Rattle.lang_read.specs.declared.statement.Home.{Home}
 use Rattle.lang_read.specs.declared.statement.Home.TheVariants.{Driver}
 use Rattle.lang_read.specs.Entries.{front, behind_front, form_trees, behind_form, is_entered, new_entry}
 use Rattle.lang_read.specs.Statements.{block_of, op_of}
-use Rattle.lang_read.specs.Bodies.{result_in, result_of, replying_body, cut_last}
-use Rattle.lang_read.specs.Calls.{called, call_named, call_ending, call_in, call, calls_of, all_called}
+use Rattle.lang_read.specs.Bodies.{result_in, result_of, replying_body, within, cut_last}
+use Rattle.lang_read.specs.Calls.{new_number, numbered_body, called, call_named, call_ending, call_in, call, calls_of, all_called}
 use Rattle.lang_read.specs.Drivers.{is_among, cell_of, new_cell, named_cells, persistent, keep_of, idle_word, idled, idle_in, idle_entry, idle_entries, idle_of, bodies, driver_in, complete, made, driver_text, LacksCall}
 use Rattle.expr_read.proofs.NotMissing.{is_missing, NotMissing, and-then, either, in-each, in-number, in-symbol, in-parts, in-head, at-end}
 use Rattle.expr_read.proofs.NotMissingExpr.{in-seen, in-locals, in-typed}
@@ -45,15 +45,19 @@ result-parts at w names (head ∷ e ∷ t ∷ ts) = refl
 in-result : (t : Tree) (w : ℕ) (names : List Named) → NotMissing (result_of t w names)
 in-result t w names = and-then (parts_of t) _ (in-parts t) (λ ts. result-parts (place_of t) w names ts)
 
-in-body : (home : Home) (most : ℕ) (at : Place) (names : List Named) (w : ℕ) (ts : List Tree) (last : Tree) → NotMissing (replying_body home most at names w ts last)
-in-body home most at names w ts last =
+in-body : (home : Home) (names : List Named) (w : ℕ) (ts : List Tree) (last : Tree) → NotMissing (replying_body home names w ts last)
+in-body home names w ts last =
     and-then (locals (front (codes "local") ts)) _ (in-locals (front (codes "local") ts)) (λ ls.
     and-then (block_of home (behind_front (codes "local") ts) (names ++ numbered Local 0 ls)) _ (in-block home (behind_front (codes "local") ts) (names ++ numbered Local 0 ls)) (λ steps.
-    and-then (result_of last w (names ++ numbered Local 0 ls)) _ (in-result last w (names ++ numbered Local 0 ls)) (λ value. either (nat_lt most (dearer steps.cost value.cost)) _ _ refl tt)))
+    and-then (result_of last w (names ++ numbered Local 0 ls)) _ (in-result last w (names ++ numbered Local 0 ls)) (λ value. tt)))
+
+in-numbered : (at : Place) (number : Result ℕ LangFault) (body : Result Priced LangFault) → NotMissing number → NotMissing body → NotMissing (numbered_body at number body)
+in-numbered at number (Ok p) q r = and-then (within 10000000 at p) _ (either (nat_lt 10000000 p.cost) _ _ refl tt) (λ body. and-then number _ q (λ k. tt))
+in-numbered at number (Err f) q r = and-then number _ q (λ k. r)
 
 in-called : (home : Home) (names : List Named) (at : Place) (before : List (ℕ × Body)) (x : Tree) (ts : List Tree) (last : Tree) (k : ℕ) (head : OpHead) → NotMissing (called home names at before x ts last k head)
 in-called home names at before x ts last k head =
-    either (is_entered k before) _ _ refl (and-then (replying_body home 10000000 at (names ++ numbered Arg 0 head.args) head.result ts last) _ (in-body home 10000000 at (names ++ numbered Arg 0 head.args) head.result ts last) (λ body. tt))
+    in-numbered at (new_number before x k) (replying_body home (names ++ numbered Arg 0 head.args) head.result ts last) (either (is_entered k before) _ _ refl tt) (in-body home (names ++ numbered Arg 0 head.args) head.result ts last)
 
 call-end : (home : Home) (ops : List OpHead) (names : List Named) (at : Place) (before : List (ℕ × Body)) (x : Tree) (o : Option (List Tree × Tree)) → NotMissing (call_ending home ops names at before x o)
 call-end home ops names at before x None = refl

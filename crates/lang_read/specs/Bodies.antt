@@ -14,6 +14,7 @@ use Rattle.expr_read.specs.Names.{locals, numbered}
 use Rattle.expr_read.specs.Expressions.{dearer, expr_of_width}
 use Rattle.lang_read.specs.declared.statement.Home.{Home}
 use Rattle.lang_read.specs.declared.statement.Steps.{Steps}
+use Rattle.lang_read.specs.declared.body.Priced.{Priced}
 use Rattle.lang_read.specs.Entries.{front, behind_front}
 use Rattle.lang_read.specs.Statements.{block_of}
 
@@ -43,19 +44,21 @@ result_in at w names ts = fails at Form
 abbrev pub result_of : Tree → ℕ → List Named → Result Typed LangFault
 result_of t w names = parts_of t >>= λ ts. result_in (place_of t) w names ts
 
--- a body, if it isn't dearer than its limit
-abbrev pub replying : ℕ → Place → List (List ℕ × ℕ) → Steps → Typed → Result Body LangFault
-replying most at ls steps value =
-    if nat_lt most (dearer steps.cost value.cost) then fails at Bound
-    else Ok (record { locals = ls; stmts = steps.stmts; result = Some value.expr })
+-- a body and its cost
+abbrev pub replying : List (List ℕ × ℕ) → Steps → Typed → Priced
+replying ls steps value = record { body = record { locals = ls; stmts = steps.stmts; result = Some value.expr }; cost = dearer steps.cost value.cost }
 
--- the body of a list at a place, whose last tree is the result
-abbrev pub replying_body : Home → ℕ → Place → List Named → ℕ → List Tree → Tree → Result Body LangFault
-replying_body home most at names w ts last = do
+-- the body of a list whose last tree is the result, whatever it costs
+abbrev pub replying_body : Home → List Named → ℕ → List Tree → Tree → Result Priced LangFault
+replying_body home names w ts last = do
   ls ← locals (front (codes "local") ts)
   steps ← block_of home (behind_front (codes "local") ts) (names ++ numbered Local 0 ls)
   value ← result_of last w (names ++ numbered Local 0 ls)
-  replying most at ls steps value
+  Ok (replying ls steps value)
+
+-- the body of a list at a place, if it isn't dearer than its limit
+abbrev pub within : ℕ → Place → Priced → Result Body LangFault
+within most at p = if nat_lt most p.cost then fails at Bound else Ok p.body
 
 -- the trees before the last one, and the last one
 abbrev pub and_front : Tree → Option (List Tree × Tree) → Option (List Tree × Tree)

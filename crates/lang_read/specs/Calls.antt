@@ -1,6 +1,6 @@
 -- The calls of a driver: (call op (local x w) .. stmt .. (result e)), in any order, one for each
 -- operation.
-use Rattle.std.specs.Prelude.{ℕ, ◌&&◌, Bool, true, false, if◌then◌else◌, List, [], ◌∷◌, ◌++◌, map, codes, Option, Some, None, Result, Ok}
+use Rattle.std.specs.Prelude.{ℕ, ◌&&◌, Bool, true, false, if◌then◌else◌, List, [], ◌∷◌, ◌++◌, map, codes, Option, Some, None, Result, Ok, Err}
 use Rattle.knox_text.specs.declared.place.Place.{Place}
 use Rattle.knox_sexpr.specs.declared.tree.Tree.{Tree, out-Tree}
 use Rattle.knox_sexpr.specs.declared.tree.Tree.TheOpen.{Tree-F}
@@ -13,16 +13,29 @@ use Rattle.expr_read.specs.declared.names.Named.{Named}
 use Rattle.expr_read.specs.Views.{◌>>=◌, fails, place_of, is_symbol, is_headed, behind_head, each}
 use Rattle.expr_read.specs.Names.{numbered, and_last}
 use Rattle.lang_read.specs.declared.statement.Home.{Home}
+use Rattle.lang_read.specs.declared.body.Priced.{Priced}
 use Rattle.lang_read.specs.Entries.{is_entered, filled}
 use Rattle.lang_read.specs.Statements.{op_of}
-use Rattle.lang_read.specs.Bodies.{empty_body, replying_body, cut_last}
+use Rattle.lang_read.specs.Bodies.{empty_body, replying_body, within, cut_last}
+
+-- the number of an operation that a tree names, and none of the calls before
+abbrev pub new_number : List (ℕ × Body) → Tree → ℕ → Result ℕ LangFault
+new_number before x k = if is_entered k before then fails (place_of x) Twice else Ok k
+
+-- the body of a list at a place may cost 10,000,000. One that is too dear is a fault of the whole
+-- list, and comes before one of the name; a fault inside it stands behind the name.
+abbrev pub numbered_body : Place → Result ℕ LangFault → Result Priced LangFault → Result (ℕ × Body) LangFault
+numbered_body at number (Ok p) = do
+  body ← within 10000000 at p
+  k ← number
+  Ok (k, body)
+numbered_body at number (Err f) = number >>= λ k. Err f
 
 -- the call of an operation that a tree names, whose list is at a place: the operation's number, and
--- the body, which sees the operation's arguments, and may cost 10,000,000
+-- the body, which sees the operation's arguments
 abbrev pub called : Home → List Named → Place → List (ℕ × Body) → Tree → List Tree → Tree → ℕ → OpHead → Result (ℕ × Body) LangFault
 called home names at before x ts last k head =
-    if is_entered k before then fails (place_of x) Twice
-    else (replying_body home 10000000 at (names ++ numbered Arg 0 head.args) head.result ts last >>= λ body. Ok (k, body))
+    numbered_body at (new_number before x k) (replying_body home (names ++ numbered Arg 0 head.args) head.result ts last)
 
 -- the call of the operation that a tree names
 abbrev pub call_named : Home → List OpHead → List Named → Place → List (ℕ × Body) → Tree → List Tree → Tree → Result (ℕ × Body) LangFault

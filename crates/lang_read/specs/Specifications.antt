@@ -9,8 +9,7 @@ use Rattle.knox_lang.specs.declared.parts.OpHead.{OpHead}
 use Rattle.knox_lang.specs.declared.parts.Body.{Body}
 use Rattle.knox_lang.specs.declared.parts.SpecParts.{SpecParts}
 use Rattle.knox_lang.specs.WellFormed.{spec_fits}
-use Rattle.expr_read.specs.declared.faults.LangWhy.{LangWhy}
-use Rattle.expr_read.specs.declared.faults.LangWhy.TheVariants.{Form, Twice, Width, Bound, Missing, Memory}
+use Rattle.expr_read.specs.declared.faults.LangWhy.TheVariants.{Form, Twice, Width, Missing}
 use Rattle.expr_read.specs.declared.faults.LangFault.{LangFault}
 use Rattle.expr_read.specs.declared.fields.Fields.{Fields}
 use Rattle.expr_read.specs.declared.names.Named.{Named}
@@ -21,7 +20,7 @@ use Rattle.lang_read.specs.declared.statement.Home.TheVariants.{Plain}
 use Rattle.lang_read.specs.declared.spec.Nameless.{Nameless}
 use Rattle.lang_read.specs.declared.spec.OpParts.{OpParts}
 use Rattle.lang_read.specs.declared.spec.OpList.{OpList}
-use Rattle.lang_read.specs.Bodies.{replying_body, cut_last}
+use Rattle.lang_read.specs.Bodies.{replying_body, within, cut_last}
 
 -- ---- operations
 
@@ -29,41 +28,33 @@ abbrev pub args_of : Tree → Result (List (List ℕ × ℕ)) LangFault
 args_of t = parts_of t >>= λ ts. arguments ts
 
 -- arguments, width and body. The body sees the fields, and the arguments, which hide them.
-abbrev pub nameless_op : Place → List Named → Tree → Tree → List Tree → Tree → Result Nameless LangFault
-nameless_op at fields args w ts last = do
+abbrev pub nameless_op : List Named → Tree → Tree → List Tree → Tree → Result Nameless LangFault
+nameless_op fields args w ts last = do
   pairs ← args_of args
   width ← width_of w
-  body ← replying_body Plain 1000000 at (fields ++ numbered Arg 0 pairs) width ts last
+  body ← replying_body Plain (fields ++ numbered Arg 0 pairs) width ts last
   Ok (record { args = pairs; result = width; body = body })
 
 -- a name that no operation before it has
 abbrev pub op_name : List OpHead → Tree → Result (List ℕ) LangFault
 op_name known t = symbol_of t >>= λ name. if is_some (op_number name known) then fails (place_of t) Twice else Ok name
 
-abbrev pub op_of : List ℕ → Nameless → OpParts
-op_of name op = record { head = record { name = name; args = op.args; result = op.result }; body = op.body }
+abbrev pub op_of : List ℕ → List (List ℕ × ℕ) → ℕ → Body → OpParts
+op_of name args width body = record { head = record { name = name; args = args; result = width }; body = body }
 
--- too dear a body is a fault of the whole list; any other stands behind the name
-abbrev pub behind_name : LangWhy → Result (List ℕ) LangFault → LangFault → Result OpParts LangFault
-behind_name Bound name f = Err f
-behind_name why name f = name >>= λ n. Err f
-
-abbrev pub named_op : Result (List ℕ) LangFault → Result Nameless LangFault → Result OpParts LangFault
-named_op name (Ok op) = name >>= λ n. Ok (op_of n op)
-named_op name (Err f) = behind_name f.why name f
-
--- the fault of a name, or one that stands behind it or is one of the whole list. Want of memory is no
--- fault of a text.
-abbrev pub earlier : LangWhy → Result (List ℕ) LangFault → LangFault → LangFault
-earlier Memory name f = f
-earlier Bound name f = f
-earlier why (Ok n) f = f
-earlier why (Err e) f = e
+-- the operation of a list at a place, whose body may cost 1,000,000. One that is too dear is a fault
+-- of the whole list, and comes before one of the name; any other fault stands behind the name.
+abbrev pub named_op : Place → Result (List ℕ) LangFault → Result Nameless LangFault → Result OpParts LangFault
+named_op at name (Ok op) = do
+  body ← within 1000000 at op.body
+  n ← name
+  Ok (op_of n op.args op.result body)
+named_op at name (Err f) = name >>= λ n. Err f
 
 abbrev pub op_ending : Place → List OpHead → List Named → Tree → Tree → Tree → Option (List Tree × Tree) → Result OpParts LangFault
 op_ending at known fields x args w None = fails at Form
 op_ending at known fields x args w (Some p) =
-    if is_headed (codes "result") p.1 then named_op (op_name known x) (nameless_op at fields args w p.0 p.1) else fails at Form
+    if is_headed (codes "result") p.1 then named_op at (op_name known x) (nameless_op fields args w p.0 p.1) else fails at Form
 
 -- (op x ((x w) ..) w stmt .. (result e))
 abbrev pub op_in : Place → List OpHead → List Named → List Tree → Result OpParts LangFault

@@ -188,10 +188,10 @@ abbrev pub query : Place → List Tree → List Named → List OpHead → Result
 query at (x ∷ op ∷ args) names ops = queried at x args names (op_of op ops)
 query at ts names ops = fails at Form
 
--- the fault of a target, or one that stands behind it. Want of memory is no fault of a text.
-abbrev pub earlier : LangWhy → Result Seen LangFault → LangFault → LangFault
-earlier Memory to f = f
-earlier why (Ok s) f = f
+-- the fault of a reading, or one that stands behind it. Want of memory is no fault of a text.
+abbrev pub earlier : {A : Type 0} → LangWhy → Result A LangFault → LangFault → LangFault
+earlier Memory first f = f
+earlier why (Ok x) f = f
 earlier why (Err e) f = e
 
 -- the operations that a body may ask

@@ -1,7 +1,7 @@
 //! Bodies: locals, statements, and a result where one is wanted.
 ghost use Rattle.std.specs.Prelude.{◌≡◌, OnOk};
 ghost use Rattle.expr_read.specs.Views.{Gives};
-ghost use Rattle.lang_read.specs.Bodies.{empty_body, silent, silent_body, result_in, result_of, replying, replying_body};
+ghost use Rattle.lang_read.specs.Bodies.{empty_body, silent, silent_body, result_in, result_of, replying, replying_body, within};
 
 use crate::statement::{Home, Steps, block};
 use expr_read::{
@@ -86,39 +86,46 @@ fn result_of(alloc: Global, tree: &Tree, width: u8, names: &[Named]) -> Result<T
     result_in(alloc, place_of(tree), width, names, parts)
 }
 
-/// The body of a list at the place, if it isn't dearer than its limit.
-fn replying(
-    most: u64,
-    at: Place,
-    locals: Items<(Items<u8>, u8)>,
-    steps: Steps,
-    value: Typed,
-) -> Result<Body, LangFault>
-    ensures { Gives result (replying most at locals steps value) }
+/// A body, and what it costs.
+#[derive(Drop)]
+pub(crate) struct Priced {
+    pub(crate) body: Body,
+    pub(crate) cost: u64,
+}
+
+fn replying(locals: Items<(Items<u8>, u8)>, steps: Steps, value: Typed) -> Priced
+    ensures { result ≡ replying locals steps value }
 {
-    if steps.cost.saturating_add(value.cost) > most {
-        return Err(fault(at, LangWhy::Bound));
-    }
-    Ok(Body {
+    let cost = steps.cost.saturating_add(value.cost);
+    let body = Body {
         locals,
         stmts: steps.stmts,
         result: Some(value.expr),
-    })
+    };
+    Priced { body, cost }
 }
 
-/// The body of a list at the place, whose last tree is its result. It sees these names, which are
-/// the same afterwards.
+/// The body of a list at the place, if it isn't dearer than its limit.
+pub(crate) fn within(most: u64, at: Place, priced: Priced) -> Result<Body, LangFault>
+    ensures { Gives result (within most at priced) }
+{
+    if priced.cost > most {
+        return Err(fault(at, LangWhy::Bound));
+    }
+    Ok(priced.body)
+}
+
+/// The body of a list whose last tree is its result, whatever it costs. It sees these names, which
+/// are the same afterwards.
 pub(crate) fn replying_body(
     alloc: Global,
     home: &Home,
-    most: u64,
-    at: Place,
     names: &mut Items<Named>,
     width: u8,
     trees: &[Tree],
     last: &Tree,
-) -> Result<Body, LangFault>
-    ensures read { Gives result (replying_body home.now most at names.old width trees.now last.now) }
+) -> Result<Priced, LangFault>
+    ensures read { Gives result (replying_body home.now names.old width trees.now last.now) }
     ensures names { OnOk result (names.new ≡ names.old) }
 {
     let outer = names.len();
@@ -128,5 +135,5 @@ pub(crate) fn replying_body(
     let steps = block(alloc, home, &trees[count..], names.as_slice())?;
     let value = result_of(alloc, last, width, names.as_slice())?;
     forget(names, outer);
-    replying(most, at, locals, steps, value)
+    Ok(replying(locals, steps, value))
 }

@@ -3,11 +3,11 @@ ghost use Rattle.std.specs.Prelude.{◌≡◌, ◌++◌, IfOk, OnOk, map};
 ghost use Rattle.knox_lang.specs.declared.parts.OpHead.{OpHead};
 ghost use Rattle.expr_read.specs.Views.{Gives};
 ghost use Rattle.lang_read.specs.Bodies.{empty_body, cut_last};
-ghost use Rattle.lang_read.specs.Calls.{called, call_named, call_ending, call_in, call, calls_of, bodies_of, begins_call, is_call, is_called, all_called};
+ghost use Rattle.lang_read.specs.Calls.{new_number, called, call_named, call_ending, call_in, call, calls_of, bodies_of, begins_call, is_call, is_called, all_called};
 
-use crate::body::{MOST_DRIVER_COST, empty_body, replying_body};
+use crate::body::{MOST_DRIVER_COST, empty_body, replying_body, within};
 use crate::entries::{filled, is_entered};
-use crate::statement::{Home, op_of};
+use crate::statement::{Home, earlier, op_of};
 use expr_read::{
     LangFault, LangWhy, Named, behind_head, declare, fault, forget, is_headed, is_symbol, place_of,
 };
@@ -16,6 +16,16 @@ use knox_sexpr::Tree;
 use knox_text::Place;
 use sqlite_items::Items;
 use std::alloc::{AllocError, Global};
+
+/// The number of an operation that a tree names, and none of the calls before.
+fn new_number(number: u32, x: &Tree, before: &[(u32, Body)]) -> Result<u32, LangFault>
+    ensures { Gives result (new_number before.now x.now number) }
+{
+    if is_entered(number, before) {
+        return Err(fault(place_of(x), LangWhy::Twice));
+    }
+    Ok(number)
+}
 
 /// The call of the operation with a head, which a tree names and whose list is at the place: the
 /// operation's number, and the body. It sees these names, which are the same afterwards.
@@ -38,15 +48,18 @@ fn called(
         Ok(number) => number,
         Err(_) => return Err(LangFault::from(AllocError)),
     };
-    if is_entered(number, before) {
-        return Err(fault(place_of(x), LangWhy::Twice));
-    }
     let outer = names.len();
     declare(alloc, Space::Arg, head.args.as_slice(), names)?;
-    let width = head.result;
-    let body = replying_body(alloc, home, MOST_DRIVER_COST, at, names, width, stmts, last)?;
-    forget(names, outer);
-    Ok((number, body))
+    let number = new_number(number, x, before);
+    match replying_body(alloc, home, names, head.result, stmts, last) {
+        Ok(priced) => {
+            let body = within(MOST_DRIVER_COST, at, priced)?;
+            let number = number?;
+            forget(names, outer);
+            Ok((number, body))
+        }
+        Err(behind) => Err(earlier(number, behind)),
+    }
 }
 
 /// The call of the operation that a tree names, with these statements and this result.

@@ -4,11 +4,12 @@ ghost use Rattle.knox_text.specs.Examples.{place};
 ghost use Rattle.knox_words.specs.Bits.{bits};
 ghost use Rattle.knox_sexpr.specs.declared.tree.Tree.TheVariants as trees;
 ghost use Rattle.knox_lang.specs.declared.expr.Expr.TheVariants.{Lit};
-ghost use Rattle.expr_read.specs.declared.faults.LangWhy.TheVariants.{Form, Width, Bound, Missing};
+ghost use Rattle.expr_read.specs.declared.faults.LangWhy.TheVariants.{Form, Twice, Width, Bound, Missing};
 ghost use Rattle.expr_read.specs.Views.{fails};
 ghost use Rattle.lang_read.specs.Entries.{filled};
 ghost use Rattle.lang_read.specs.Statements.{while_of};
-ghost use Rattle.lang_read.specs.Bodies.{silent, replying};
+ghost use Rattle.lang_read.specs.Bodies.{silent, replying, within};
+ghost use Rattle.lang_read.specs.Calls.{numbered_body};
 ghost use Rattle.lang_read.specs.Drivers.{idle_word, driver_text};
 ghost use Rattle.lang_read.specs.Examples.{no_lines, two_ops, bare, no_list, only_set, bit_of_cost, steps_of_cost, input};
 
@@ -26,10 +27,19 @@ pub fn costs_as_expected()
     ensures turns { (while_of (bit_of_cost 3) 4 (steps_of_cost 10)).cost ≡ 56 }
     ensures no_turn { (while_of (bit_of_cost 3) 0 (steps_of_cost 10)).cost ≡ 4 }
     ensures saturated { (while_of (bit_of_cost 3) 1000000 (steps_of_cost 18446744073709551615)).cost ≡ 18446744073709551615 }
-    ensures dear { replying 10000000 (place 1 9) [] (steps_of_cost 9999999) (bit_of_cost 1) ≡ Ok (record { locals = []; stmts = []; result = Some (Lit (bits 1 1)) }) }
-    ensures too_dear { replying 10000000 (place 1 9) [] (steps_of_cost 10000000) (bit_of_cost 1) ≡ fails (place 1 9) Bound }
+    ensures dear { within 10000000 (place 1 9) (replying [] (steps_of_cost 9999999) (bit_of_cost 1)) ≡ Ok (record { locals = []; stmts = []; result = Some (Lit (bits 1 1)) }) }
+    ensures too_dear { within 10000000 (place 1 9) (replying [] (steps_of_cost 10000000) (bit_of_cost 1)) ≡ fails (place 1 9) Bound }
     ensures silent { silent (place 1 9) [] (steps_of_cost 1000000) ≡ Ok (record { locals = []; stmts = []; result = None }) }
     ensures too_dear_silent { silent (place 1 9) [] (steps_of_cost 1000001) ≡ fails (place 1 9) Bound }
+{}
+
+/// A second call of an operation is told at its name, before every fault inside it; too dear a body
+/// stands at the list, and comes first.
+pub fn second_calls_as_expected()
+    ensures whole { numbered_body (place 1 9) (fails (place 1 15) Twice) (Ok (replying [] (steps_of_cost 9999999) (bit_of_cost 1))) ≡ fails (place 1 15) Twice }
+    ensures inside { numbered_body (place 1 9) (fails (place 1 15) Twice) (fails (place 1 20) Form) ≡ fails (place 1 15) Twice }
+    ensures too_dear { numbered_body (place 1 9) (fails (place 1 15) Twice) (Ok (replying [] (steps_of_cost 10000000) (bit_of_cost 1))) ≡ fails (place 1 9) Bound }
+    ensures first { numbered_body (place 1 9) (Ok 1) (fails (place 1 20) Form) ≡ fails (place 1 20) Form }
 {}
 
 /// Entries give words to what they name, and the first of two decides.

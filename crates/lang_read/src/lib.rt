@@ -15,7 +15,9 @@ mod statement;
 
 pub use driver::read_driver;
 pub use emulator::read_emulator;
-pub use examples::{costs_as_expected, entries_as_expected, lacking_calls_as_expected};
+pub use examples::{
+    costs_as_expected, entries_as_expected, lacking_calls_as_expected, second_calls_as_expected,
+};
 pub use expr_read::{LangFault, LangWhy};
 pub use laws::missing_is_a_call;
 pub use spec::read_spec;

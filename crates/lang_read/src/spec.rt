@@ -4,10 +4,10 @@ ghost use Rattle.std.specs.Prelude.{◌≡◌, ◌≤◌, IfOk, OnOk, length, tr
 ghost use Rattle.knox_lang.specs.WellFormed.{spec_fits};
 ghost use Rattle.expr_read.specs.Views.{Gives};
 ghost use Rattle.lang_read.specs.Bodies.{cut_last};
-ghost use Rattle.lang_read.specs.Specifications.{args_of, nameless_op, op_name, earlier, op_of, named_op, op_ending, op_in, operation, operations, spec_in, spec_parts, made, spec_of, spec_text};
+ghost use Rattle.lang_read.specs.Specifications.{args_of, nameless_op, op_name, op_of, named_op, op_ending, op_in, operation, operations, spec_in, spec_parts, made, spec_of, spec_text};
 
-use crate::body::{MOST_COST, replying_body};
-use crate::statement::Home;
+use crate::body::{MOST_COST, Priced, replying_body, within};
+use crate::statement::{Home, earlier};
 use expr_read::{
     LangFault, LangWhy, Named, arguments, behind_head, declare, fault, field_names, fields_of,
     forget, headed_count, is_headed, no_more, op_number, parts_of, place_of, symbol_of, width_of,
@@ -24,7 +24,7 @@ use std::alloc::Global;
 struct Nameless {
     args: Items<(Items<u8>, u8)>,
     result: u8,
-    body: Body,
+    body: Priced,
 }
 
 /// An operation: its head, and its body.
@@ -49,18 +49,17 @@ fn args_of(alloc: Global, tree: &Tree) -> Result<Items<(Items<u8>, u8)>, LangFau
     arguments(alloc, parts)
 }
 
-/// The arguments, the width and the body of an operation whose list is at the place. The names are
-/// the fields, here and afterwards.
+/// The arguments, the width and the body of an operation. The names are the fields, here and
+/// afterwards.
 fn nameless_op(
     alloc: Global,
-    at: Place,
     names: &mut Items<Named>,
     args: &Tree,
     w: &Tree,
     stmts: &[Tree],
     last: &Tree,
 ) -> Result<Nameless, LangFault>
-    ensures read { Gives result (nameless_op at names.old args.now w.now stmts.now last.now) }
+    ensures read { Gives result (nameless_op names.old args.now w.now stmts.now last.now) }
     ensures fields { OnOk result (names.new ≡ names.old) }
 {
     let args = args_of(alloc, args)?;
@@ -68,7 +67,7 @@ fn nameless_op(
     let fields = names.len();
     declare(alloc, Space::Arg, args.as_slice(), names)?;
     let home = Home::Plain;
-    let body = replying_body(alloc, &home, MOST_COST, at, names, result, stmts, last)?;
+    let body = replying_body(alloc, &home, names, result, stmts, last)?;
     forget(names, fields);
     Ok(Nameless { args, result, body })
 }
@@ -85,30 +84,16 @@ fn op_name(alloc: Global, tree: &Tree, known: &[OpHead]) -> Result<Items<u8>, La
     Ok(name)
 }
 
-/// The fault of a name, or one that stands behind it or is one of the whole operation.
-fn earlier(name: Result<Items<u8>, LangFault>, behind: LangFault) -> LangFault
-    ensures { result ≡ earlier behind.why name behind }
-{
-    match behind.why {
-        LangWhy::Memory => behind,
-        LangWhy::Bound => behind,
-        _ => match name {
-            Ok(_) => behind,
-            Err(first) => first,
-        },
-    }
-}
-
-fn op_of(name: Items<u8>, op: Nameless) -> OpParts
-    ensures { result ≡ op_of name op }
+fn op_of(name: Items<u8>, args: Items<(Items<u8>, u8)>, width: u8, body: Body) -> OpParts
+    ensures { result ≡ op_of name args width body }
 {
     OpParts {
         head: OpHead {
             name,
-            args: op.args,
-            result: op.result,
+            args,
+            result: width,
         },
-        body: op.body,
+        body,
     }
 }
 
@@ -124,14 +109,15 @@ fn named_op(
     stmts: &[Tree],
     last: &Tree,
 ) -> Result<OpParts, LangFault>
-    ensures read { Gives result (named_op (op_name known.now x.now) (nameless_op at names.old args.now w.now stmts.now last.now)) }
+    ensures read { Gives result (named_op at (op_name known.now x.now) (nameless_op names.old args.now w.now stmts.now last.now)) }
     ensures fields { OnOk result (names.new ≡ names.old) }
 {
     let name = op_name(alloc, x, known);
-    match nameless_op(alloc, at, names, args, w, stmts, last) {
+    match nameless_op(alloc, names, args, w, stmts, last) {
         Ok(op) => {
+            let body = within(MOST_COST, at, op.body)?;
             let name = name?;
-            Ok(op_of(name, op))
+            Ok(op_of(name, op.args, op.result, body))
         }
         Err(behind) => Err(earlier(name, behind)),
     }

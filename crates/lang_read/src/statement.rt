@@ -428,13 +428,13 @@ fn query(
     }
 }
 
-/// The fault of a target, or one that stands behind it.
-fn earlier(target: Result<Seen, LangFault>, behind: LangFault) -> LangFault
-    ensures { result ≡ earlier behind.why target behind }
+/// The fault of a reading, or one that stands behind it.
+pub(crate) fn earlier<T: Drop>(first: Result<T, LangFault>, behind: LangFault) -> LangFault
+    ensures { result ≡ earlier behind.why first behind }
 {
     match behind.why {
         LangWhy::Memory => behind,
-        _ => match target {
+        _ => match first {
             Ok(_) => behind,
             Err(first) => first,
         },
