@@ -1,7 +1,7 @@
 use Rattle.std.proofs.Common.{◌≡◌, true, subst}
 use Rattle.knox_words.specs.Lists.{fit}
 use Rattle.knox_lang.specs.WellFormed.{word_widths}
-use Rattle.emu_machine.proofs.laws.devices_are_designs.Goals as goal
+use Rattle.device_design.proofs.laws.devices_are_designs.Goals as goal
 
 pub returns : goal.returns
 returns c =

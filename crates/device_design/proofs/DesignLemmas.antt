@@ -18,10 +18,10 @@ use Rattle.knox_lang.specs.WellFormed.{word_widths, field_widths, emulator_fits,
 use Rattle.knox_lang.proofs.WidthLemmas.{and_first, and_second}
 use Rattle.knox_lang.proofs.OperationLemmas.{spec-is-typed}
 use Rattle.emu_machine.specs.Fits.{have_widths, words_fit, inputs, outputs, same_heads, fits_circuit, fits_specification, fits_emulator, takes_no_noise, fits_device}
-use Rattle.emu_machine.specs.Meaning.{head_args, head_result, device_of, design_of}
+use Rattle.device_design.specs.Meaning.{head_args, head_result, device_of, design_of}
 use Rattle.cell_fields.specs.Fields.{name_cells}
-use Rattle.emu_machine.proofs.AskingLemmas.{tick-asks-fit, spec-init}
-use Rattle.emu_machine.proofs.PowerLemmas.{power-fits, names-widths}
+use Rattle.device_design.proofs.AskingLemmas.{tick-asks-fit, spec-init}
+use Rattle.device_design.proofs.PowerLemmas.{power-fits, names-widths}
 
 -- the widths of ports
 

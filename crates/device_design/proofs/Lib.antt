@@ -1,0 +1,4 @@
+pub mod DialogueLemmas
+pub mod AskingLemmas
+pub mod PowerLemmas
+pub mod DesignLemmas
