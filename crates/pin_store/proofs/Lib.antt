@@ -1,8 +1,12 @@
 mod Values
 mod Plain
 mod Meaning
+mod Driving
+mod Devices
 mod Rows
 mod Hinting
+mod Whole
+mod Running
 mod Shut
 mod Leaking
 mod Programs
