@@ -2,3 +2,4 @@ pub mod DialogueLemmas
 pub mod AskingLemmas
 pub mod PowerLemmas
 pub mod DesignLemmas
+pub mod DriverLemmas

@@ -56,8 +56,7 @@ pub fn parts_make_designs(c: &Circuit)
     knox_circuit::persistent_words_are_spread(c);
 }
 
-/// A driver that fits a circuit as a part of a device is a driver of it, and a device's design has
-/// this driver.
+/// The driver of a device is one of its circuit, and the device's design has this driver.
 pub fn devices_have_drivers(dev: &Device)
     ensures driver { fits_driver (input_widths dev.now.circuit.lines) (output_widths dev.now.circuit.lines) (length (cells_of dev.now.circuit.lines)) dev.now.driver ≡ true }
     ensures design { HasDriver dev.now.circuit.lines dev.now.driver (design_of dev.now.circuit dev.now.spec dev.now.driver dev.now.emulator) }

@@ -6,5 +6,6 @@
 mod laws;
 
 pub use laws::{
-    devices_are_designs, dialogue_is_the_tick, parts_make_designs, queries_are_of_operations,
+    devices_are_designs, devices_have_drivers, dialogue_is_the_tick, parts_make_designs,
+    queries_are_of_operations,
 };
