@@ -8,5 +8,7 @@ mod Hinting
 mod Whole
 mod Running
 mod Shut
+mod Typed
+mod Agreed
 mod Leaking
 mod Programs

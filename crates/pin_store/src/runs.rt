@@ -120,11 +120,12 @@ pub fn leaks_are_told()
     ensures agree { Agree (device 4 leaked) → ⊥ }
 {}
 
-/// Trying all choices: with a secret of one bit the store's whole script is closed, and not that of its leaking variant. The bits of the choices of each
-/// segment.
+/// Trying all choices: with a secret of one bit the store's whole script is closed, so its worlds agree; and not that of its leaking variant. The bits of the
+/// choices of each segment.
 pub fn scripts_are_closed()
     ensures closed { Closed (design 1 shown) (hints 1 shown) }
     ensures tried { all_tried (parts 1 shown) ≡ true }
+    ensures agree { Agree (device 1 shown) }
     ensures leaks { is_closed_below (course_at (parts 1 leaked) 1) 7 ≡ false }
     ensures bits { map (λ g. g.choice_bits) (parts 1 shown) ≡ 2 ∷ 7 ∷ 0 ∷ 2 ∷ 3 ∷ 3 ∷ 4 ∷ 4 ∷ [] }
     ensures more { map (λ g. g.choice_bits) (parts 4 shown) ≡ 8 ∷ 16 ∷ 0 ∷ 8 ∷ 9 ∷ 9 ∷ 13 ∷ 13 ∷ [] }
