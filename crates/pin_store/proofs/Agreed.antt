@@ -1,5 +1,5 @@
 -- The store with a secret of one bit: its design is lawful and its script is closed, so its worlds agree.
-use Rattle.std.proofs.Common.{◌≡◌, ℕ, ◌<◌, ◌&&◌, List, [], ◌∷◌, map, reverse, length, Some, Bool, true, IsTrue, refl, sym, subst, arith}
+use Rattle.std.proofs.Common.{◌≡◌, ◌&&◌, List, [], ◌∷◌, map, reverse, Some, Bool, true, IsTrue, refl, subst, arith}
 use Rattle.knox_theory.specs.Agreement.{Agree}
 use Rattle.knox_theory.specs.Closed.{Closed}
 use Rattle.knox_theory.specs.Lawful.{IsDesign}
@@ -10,7 +10,7 @@ use Rattle.knox_circuit.specs.declared.circuit.Cell.{Cell}
 use Rattle.knox_circuit.specs.declared.circuit.Port.{Port}
 use Rattle.knox_circuit.specs.declared.line.Line.{Line}
 use Rattle.knox_circuit.specs.declared.table.Tables.{Tables}
-use Rattle.knox_circuit.specs.Circuit.{cells_of, input_widths, output_widths}
+use Rattle.knox_circuit.specs.Circuit.{cells_of}
 use Rattle.knox_circuit.specs.Form.{is_line, IsInForm}
 use Rattle.knox_circuit.specs.Ports.{inputs_of, outputs_of, output_operands}
 use Rattle.knox_circuit.specs.Resolved.{nodes_of, output_args, next_args, first_word}
@@ -29,7 +29,6 @@ use Rattle.device_design.specs.Meaning.{design_of}
 use Rattle.device_design.proofs.DesignLemmas.{CircuitLaws, parts-make-design}
 use Rattle.device_design.proofs.DriverLemmas.{fits-driver, has-driver}
 use Rattle.pin_store.specs.Store.{lines, circuit, shown, spec, driver, emulator, device, design}
-use Rattle.pin_store.specs.Hinted.{hints}
 use Rattle.pin_store.proofs.Plain.{keep}
 use Rattle.pin_store.proofs.Typed.{spec-fits, driver-fits, emulator-fits}
 use Rattle.pin_store.proofs.Hinting.{plain_right, script_by, hints-are, plain_host}
@@ -109,9 +108,9 @@ lawful : IsDesign (design 1 shown)
 lawful = record {
   wires = parts-make-design (circuit 1 shown) (spec 1) (driver 1) (emulator 1) (λ keep. circuit-laws) spec-fits emulator-fits fits refl;
   driver = is-driver ls (driver 1)
-    (known ls (driver 1) driver-fits (fits-driver (circuit 1 shown) (spec 1) (driver 1) (emulator 1) fits refl)
-    (record { shows = outputs-fit ls tables tabled; ticks = tick-fits ls tables tabled }))
-    (design 1 shown) (has-driver (circuit 1 shown) (spec 1) (driver 1) (emulator 1) fits);
+      (known ls (driver 1) driver-fits (fits-driver (circuit 1 shown) (spec 1) (driver 1) (emulator 1) fits refl)
+      (record { shows = outputs-fit ls tables tabled; ticks = tick-fits ls tables tabled }))
+      (design 1 shown) (has-driver (circuit 1 shown) (spec 1) (driver 1) (emulator 1) fits);
 }
 
 -- ---- the script

@@ -1,8 +1,7 @@
 -- The store's programs with a secret of one bit obey the rules of the language.
-use Rattle.std.proofs.Common.{◌≡◌, ℕ, ◌==◌, ◌&&◌, List, [], ◌∷◌, map, slice_get, Some, true, refl, ap, sym, ◌∙◌}
+use Rattle.std.proofs.Common.{◌≡◌, ℕ, ◌&&◌, List, [], ◌∷◌, map, slice_get, Some, true, refl, ap, sym, ◌∙◌}
 use Rattle.knox_words.specs.Bits.{Bits, bits}
 use Rattle.knox_words.specs.Lists.{are_widths}
-use Rattle.knox_words.specs.declared.op.Op2.{Op2}
 use Rattle.knox_words.specs.declared.op.Op2.TheVariants.{Eq}
 use Rattle.knox_lang.specs.declared.expr.Slot.{Slot}
 use Rattle.knox_lang.specs.declared.expr.Space.{Space}
