@@ -1,8 +1,14 @@
 mod Values
 mod Plain
 mod Meaning
+mod Driving
+mod Devices
 mod Rows
 mod Hinting
+mod Whole
+mod Running
 mod Shut
+mod Typed
+mod Agreed
 mod Leaking
 mod Programs

@@ -1,5 +1,5 @@
--- The store's programs are the plain ones, and so are its device, its design and its script.
-use Rattle.std.proofs.Common.{◌≡◌, ℕ, zero, suc, ◌==◌, [], ◌∷◌, slice_get, if◌then◌else◌, refl, ap, ◌∙◌}
+-- The store's specification and its emulator are the plain ones.
+use Rattle.std.proofs.Common.{◌≡◌, ℕ, zero, suc, ◌==◌, List, [], ◌∷◌, if◌then◌else◌, refl, ap, ◌∙◌, codes}
 use Rattle.knox_words.specs.Bits.{bits, word_at}
 use Rattle.knox_words.specs.Ops.{op2_or}
 use Rattle.knox_words.specs.Lists.{Words}
@@ -15,11 +15,12 @@ use Rattle.knox_lang.specs.Scope.{scope, named, put_in}
 use Rattle.knox_lang.specs.Eval.{Calls, Value, eval, called}
 use Rattle.knox_lang.specs.Exec.{Does, does}
 use Rattle.knox_lang.specs.Operation.{op_result, op_after, no_queries, body_spaces, body_after}
-use Rattle.emu_machine.specs.Emulator.{body_words, emulator_outputs}
+use Rattle.knox_lang.specs.declared.parts.Field.{Field}
+use Rattle.knox_lang.specs.declared.parts.Body.{Body}
+use Rattle.emu_machine.specs.Emulator.{body_words, emulator_outputs, emulator_after_power, power_spaces}
 use Rattle.emu_machine.specs.Dialogue.{Talk, talk_of, talks, tick_dialogue}
-use Rattle.emu_machine.specs.Meaning.{device_of, design_of, head_args}
-use Rattle.pin_store.specs.Store.{spec, emulator, set_body, check_body, device, design, shown, leaked, name, equal, is_command, asks}
-use Rattle.pin_store.proofs.Plain.{reply, fields_after, outs, tick, args_of, plain_device, plain_design}
+use Rattle.pin_store.specs.Store.{spec, emulator_with, field, nothing, shows_noise, set_body, check_body, name, equal, is_command, asks}
+use Rattle.pin_store.proofs.Plain.{result_of, fields_after, silence, the_noise, outs, tick}
 use Rattle.pin_store.proofs.Values.{value-Lit, value-Name, value-Bin, talk-Assign, talk-If, talk-Query, does-Assign}
 
 abbrev pub calls : Calls
@@ -71,62 +72,49 @@ showing-is =
     talk-Assign calls (record { space = space.Own; number = 0 }) (name space.Local 1)
     ∙ (λ i sp bound next. next (put_in sp space.Own 0 (name-is space.Local 1 i (scope sp bound))))
 
-tick-is : (w : ℕ) (emu ins : Words) → tick_dialogue (emulator w) emu ins ≡ tick emu ins
-tick-is w emu ins i =
-    talks (on-command-is 1 0 0 i ∷ on-command-is 2 1 1 i ∷ showing-is i ∷ []) (body_words emu ins (bits 1 0 ∷ bits 1 0 ∷ [])) [] (λ after. Ended after.own [])
+-- what the emulator does at power-on, with its words
+pub record Powering : Type 0 where
+  pub noise : List Field
+  pub power : Body
+  pub words : Words → Words
+  pub same : (w : ℕ) (ns : Words) → emulator_after_power (emulator_with noise power w) ns ≡ words ns
 
-outs-are : (w : ℕ) (emu ins : Words) → emulator_outputs (emulator w) emu ins ≡ outs emu
-outs-are w emu ins i = name-is space.Own 0 i (scope (body_words emu ins []) []) ∷ []
+abbrev pub quiet : Powering
+quiet = record { noise = []; power = nothing; words = silence; same = λ w ns. refl }
+
+-- a word is assigned another
+abbrev assigning : (from : Space) → Does (Unit {0})
+assigning s st bound = (put_in st.0 space.Own 0 (slot_value s 0 (scope st.0 bound)), st.1)
+
+pub assigning-is : (s : Space) → does (Unit {0}) calls no_queries (stmt.Assign (record { space = space.Own; number = 0 }) (name s 0)) ≡ assigning s
+assigning-is s =
+    does-Assign calls (Unit {0}) no_queries (record { space = space.Own; number = 0 }) (name s 0)
+    ∙ (λ i st bound. (put_in st.0 space.Own 0 (name-is s 0 i (scope st.0 bound)), st.1))
+
+abbrev pub noisy : Powering
+noisy = record {
+  noise = field (codes "ok") 1 ∷ [];
+  power = shows_noise;
+  words = the_noise;
+  same = λ w ns. ap (λ (d : Does (Unit {0})). (d (power_spaces (emulator_with (field (codes "ok") 1 ∷ []) shows_noise w) ns, tt) []).0.own) (assigning-is space.Noise);
+}
+
+module _ (w : ℕ) (p : Powering) where
+  pub tick-is : (emu ins : Words) → tick_dialogue (emulator_with p.noise p.power w) emu ins ≡ tick emu ins
+  tick-is emu ins i =
+      talks (on-command-is 1 0 0 i ∷ on-command-is 2 1 1 i ∷ showing-is i ∷ []) (body_words emu ins (bits 1 0 ∷ bits 1 0 ∷ [])) [] (λ after. Ended after.own [])
+
+  pub outs-are : (emu ins : Words) → emulator_outputs (emulator_with p.noise p.power w) emu ins ≡ outs emu
+  outs-are emu ins i = name-is space.Own 0 i (scope (body_words emu ins []) []) ∷ []
 
 -- ---- the specification
 
-reply-is : (w o : ℕ) (args fields : Words) → op_result (spec w) o fields args ≡ reply o args fields
-reply-is w zero args fields = ap (λ (v : Value). v (scope (body_after [] set_body fields args) [])) (value-Lit calls (bits 1 1))
-reply-is w (suc zero) args fields = ap (λ (v : Value). v (scope (body_after [] check_body fields args) [])) (names-equal space.Arg space.Own 0 0)
-reply-is w (suc (suc o)) args fields = refl
+pub result-is : (w o : ℕ) (args fields : Words) → op_result (spec w) o fields args ≡ result_of o args fields
+result-is w zero args fields = ap (λ (v : Value). v (scope (body_after [] set_body fields args) [])) (value-Lit calls (bits 1 1))
+result-is w (suc zero) args fields = ap (λ (v : Value). v (scope (body_after [] check_body fields args) [])) (names-equal space.Arg space.Own 0 0)
+result-is w (suc (suc o)) args fields = refl
 
-abbrev setting : Does (Unit {0})
-setting st bound = (put_in st.0 space.Own 0 (word_at st.0.arg 0), st.1)
-
-setting-is : does (Unit {0}) calls no_queries (stmt.Assign (record { space = space.Own; number = 0 }) (name space.Arg 0)) ≡ setting
-setting-is =
-    does-Assign calls (Unit {0}) no_queries (record { space = space.Own; number = 0 }) (name space.Arg 0)
-    ∙ (λ i st bound. (put_in st.0 space.Own 0 (name-is space.Arg 0 i (scope st.0 bound)), st.1))
-
-fields-are : (w o : ℕ) (args fields : Words) → op_after (spec w) o fields args ≡ fields_after o args fields
-fields-are w zero args fields = ap (λ (d : Does (Unit {0})). (d (body_spaces set_body fields args, tt) []).0.own) setting-is
+pub fields-are : (w o : ℕ) (args fields : Words) → op_after (spec w) o fields args ≡ fields_after o args fields
+fields-are w zero args fields = ap (λ (d : Does (Unit {0})). (d (body_spaces set_body fields args, tt) []).0.own) (assigning-is space.Arg)
 fields-are w (suc zero) args fields = refl
 fields-are w (suc (suc o)) args fields = refl
-
--- ---- device and design, whose outputs are those of the store or of its leaking variant
-
-args-are : (w o : ℕ) → head_args (slice_get (spec w).ops o) ≡ args_of w o
-args-are w zero = refl
-args-are w (suc zero) = refl
-args-are w (suc (suc o)) = refl
-
-pub store-is : (w : ℕ) → device w shown ≡ plain_device w shown
-unfolding device_of
-store-is w i = record (plain_device w shown) {
-  args = λ o. args-are w o i;
-  op = λ o args fields. (reply-is w o args fields i, fields-are w o args fields i);
-  emu_outs = λ emu copy ins. outs-are w emu ins i;
-  emu_tick = λ emu copy ins. tick-is w emu ins i;
-}
-
-pub leak-is : (w : ℕ) → device w leaked ≡ plain_device w leaked
-unfolding device_of
-leak-is w i = record (plain_device w leaked) {
-  args = λ o. args-are w o i;
-  op = λ o args fields. (reply-is w o args fields i, fields-are w o args fields i);
-  emu_outs = λ emu copy ins. outs-are w emu ins i;
-  emu_tick = λ emu copy ins. tick-is w emu ins i;
-}
-
-pub store-design-is : (w : ℕ) → design w shown ≡ plain_design w shown
-unfolding device_of design_of
-store-design-is w i = record (plain_design w shown) { device = store-is w i }
-
-pub leak-design-is : (w : ℕ) → design w leaked ≡ plain_design w leaked
-unfolding device_of design_of
-leak-design-is w i = record (plain_design w leaked) { device = leak-is w i }

@@ -1,29 +1,70 @@
 -- The store's programs as plain functions of the words, without expressions: they compute.
-use Rattle.std.proofs.Common.{ℕ, zero, suc, ◌==◌, List, [], ◌∷◌, ◌++◌, slice_get, slice_set, if◌then◌else◌, Bool, true, false}
+use Rattle.std.proofs.Common.{ℕ, zero, suc, ◌==◌, List, [], ◌∷◌, slice_get, slice_set, if◌then◌else◌, Bool, true, false}
 use Rattle.knox_words.specs.Bits.{Bits, bits, word_at}
-use Rattle.knox_words.specs.Ops.{op2_or}
+use Rattle.knox_words.specs.Ops.{op1_value, op2_or}
 use Rattle.knox_words.specs.Lists.{Words}
+use Rattle.knox_words.specs.declared.op.Op1.TheVariants.{Not}
 use Rattle.knox_words.specs.declared.op.Op2.TheVariants.{Eq}
-use Rattle.knox_theory.specs.Device.{OutOfTurns, Asking, Ask, Ended, Device}
+use Rattle.knox_theory.specs.Device.{Reply, Replied, OutOfTurns, Asking, Ask, Ended, Device}
 use Rattle.knox_theory.specs.Design.{Design}
 use Rattle.knox_circuit.specs.declared.line.Line.{Line}
-use Rattle.knox_circuit.specs.Circuit.{cells_of, output_words, state_after_tick}
-use Rattle.knox_circuit.specs.Power.{factory_state, state_after_power, persistent_words, spread_words}
-use Rattle.emu_machine.specs.Meaning.{all_taken, at_end, head_result}
-use Rattle.pin_store.specs.Store.{cell_lines, set_head, check_head}
+use Rattle.knox_circuit.specs.Circuit.{cells_of, output_words, state_after_tick, state_widths, input_widths}
+use Rattle.knox_circuit.specs.Power.{factory_state, state_after_power, states_of, noise_widths, persistent_words, persistent_widths, spread_words}
+use Rattle.knox_lang.specs.declared.expr.Stmt.{Stmt}
+use Rattle.driver_machine.specs.Left.{Left, start, ended, reply}
+use Rattle.driver_machine.specs.Moves.{move, move_tests, ticks_left}
+use Rattle.driver_machine.specs.Fits.{fits_config}
+use Rattle.device_design.specs.Meaning.{all_taken, head_result}
+use Rattle.pin_store.specs.Store.{set_head, check_head, driver_with}
 
 -- ---- the specification: what is replied, and the fields afterwards
 
-abbrev pub reply : (op : ℕ) (args fields : Words) → Bits
-reply zero args fields = bits 1 1
-reply (suc zero) args fields = op2_or Eq (word_at args 0) (word_at fields 0)
-reply (suc (suc o)) args fields = bits 1 0
+abbrev pub result_of : (op : ℕ) (args fields : Words) → Bits
+result_of zero args fields = bits 1 1
+result_of (suc zero) args fields = op2_or Eq (word_at args 0) (word_at fields 0)
+result_of (suc (suc o)) args fields = bits 1 0
 
 abbrev pub fields_after : (op : ℕ) (args fields : Words) → Words
 fields_after zero args fields = slice_set fields 0 (word_at args 0)
 fields_after (suc o) args fields = fields
 
+-- ---- the driver
+
+-- the inputs under a command
+abbrev pub under : (command : ℕ) (args : Words) → Words
+under n args = bits 2 n ∷ word_at args 0 ∷ []
+
+-- what is shown under inputs, and whether that is 0
+abbrev pub answer : List Line → (cells ins : Words) → Bits
+answer ls cells ins = word_at (output_words ls cells ins) 0
+
+abbrev pub is_silent : List Line → (cells ins : Words) → Bool
+is_silent ls cells ins = (op1_value Not (answer ls cells ins)).value == 1
+
+-- an answer that doesn't wait, and one that is out of turns where nothing is shown
+abbrev pub at_once : Bool → Reply
+at_once silent = Replied (bits 1 1)
+
+abbrev pub in_time : Bool → Reply
+in_time silent = if silent then OutOfTurns else Replied (bits 1 1)
+
+-- the cells after a command, and what is replied then
+abbrev pub told : List Line → (command : ℕ) (args cells : Words) → Words
+told ls n args cells = state_after_tick ls cells (under n args)
+
+abbrev pub driven : List Line → (Bool → Reply) → (op : ℕ) (args cells : Words) → Reply × Words
+driven ls waits zero args cells = (waits (is_silent ls (told ls 1 args cells) (under 1 args)), told ls 1 args cells)
+driven ls waits (suc zero) args cells = (Replied (answer ls (told ls 2 args cells) (under 2 args)), told ls 2 args cells)
+driven ls waits (suc (suc o)) args cells = (OutOfTurns, cells)
+
 -- ---- the emulator
+
+-- its words after a power-cycle: the answer is 0, or it is the noise
+abbrev pub silence : (noise : Words) → Words
+silence noise = bits 1 0 ∷ []
+
+abbrev pub the_noise : (noise : Words) → Words
+the_noise noise = word_at noise 0 ∷ []
 
 abbrev pub outs : (emu : Words) → Words
 outs emu = word_at emu 0 ∷ []
@@ -41,10 +82,7 @@ checks emu ins = if commands 2 ins then Ask 1 (word_at ins 1 ∷ []) (λ r. ends
 abbrev pub tick : (emu ins : Words) → Asking
 tick emu ins = if commands 1 ins then Ask 0 (word_at ins 1 ∷ []) (λ q. checks emu ins) else checks emu ins
 
--- ---- what they are together with the circuit
-
-abbrev pub lines : (width : ℕ) → (output : List Line) → List Line
-lines w output = cell_lines w ++ output
+-- ---- what they are together with a circuit
 
 abbrev pub keep : List Bool
 keep = true ∷ false ∷ []
@@ -55,44 +93,47 @@ args_of w zero = w ∷ []
 args_of w (suc zero) = w ∷ []
 args_of w (suc (suc o)) = []
 
-abbrev pub plain_device : (width : ℕ) → (output : List Line) → Device
-plain_device w output = record {
-  noise = [];
-  factory_noise = [];
-  ins = 2 ∷ w ∷ [];
-  ops = 2;
-  args = λ o. args_of w o;
-  idle = bits 2 0 ∷ bits w 0 ∷ [];
-  factory = λ noise. factory_state (lines w output) noise;
-  persistent_of = λ cells. persistent_words (cells_of (lines w output)) keep cells;
-  power = λ persistent noise. state_after_power (lines w output) keep (spread_words (cells_of (lines w output)) keep persistent) noise;
-  outs = λ cells ins. output_words (lines w output) cells ins;
-  tick = λ cells ins. state_after_tick (lines w output) cells ins;
-  drive = λ o args cells. (OutOfTurns, cells);
-  initial = bits w 0 ∷ [];
-  op = λ o args fields. (reply o args fields, fields_after o args fields);
-  first_kept = [];
-  emu_power = λ noise kept. (bits 1 0 ∷ [], []);
-  kept_of = λ emu. [];
-  emu_outs = λ emu copy ins. outs emu;
-  emu_tick = λ emu copy ins. tick emu ins;
-}
+module _ (w : ℕ) (ls : List Line) (waits : Bool → Reply) where
+  -- by the words that the emulator has after power-on
+  abbrev pub plain_device : (emulator : Words → Words) → Device
+  plain_device emulator = record {
+    noise = noise_widths (states_of ls) keep;
+    factory_noise = noise_widths (states_of ls) [];
+    ins = input_widths ls;
+    ops = 2;
+    args = λ o. args_of w o;
+    idle = bits 2 0 ∷ bits w 0 ∷ [];
+    factory = λ noise. factory_state ls noise;
+    persistent_of = λ cells. persistent_words (cells_of ls) keep cells;
+    power = λ persistent noise. state_after_power ls keep (spread_words (cells_of ls) keep persistent) noise;
+    outs = λ cells ins. output_words ls cells ins;
+    tick = λ cells ins. state_after_tick ls cells ins;
+    drive = λ o args cells. driven ls waits o args cells;
+    initial = bits w 0 ∷ [];
+    op = λ o args fields. (result_of o args fields, fields_after o args fields);
+    first_kept = [];
+    emu_power = λ noise kept. (emulator noise, []);
+    kept_of = λ emu. [];
+    emu_outs = λ emu copy ins. outs emu;
+    emu_tick = λ emu copy ins. tick emu ins;
+  }
 
-abbrev pub plain_design : (width : ℕ) → (output : List Line) → Design (Unit {0})
-plain_design w output = record {
-  device = plain_device w output;
-  fields = w ∷ [];
-  result = λ o. head_result (slice_get (set_head w ∷ check_head w ∷ []) o);
-  cells = all_taken (w ∷ 1 ∷ []);
-  persistent = all_taken (w ∷ []);
-  emu = 1 ∷ [];
-  copy = all_taken [];
-  kept = [];
-  start = λ o args cells. at_end cells (bits 2 0 ∷ bits w 0 ∷ []);
-  move = λ c. c;
-  move_tests = λ c. [];
-  ended = λ c. true;
-  ticks_left = λ c. 0;
-  reply = λ left. OutOfTurns;
-  fits_config = λ o c. true;
-}
+  -- its moves are those of the driver: what they come to is said by `driven`
+  abbrev pub plain_design : (more : List Stmt) → Design Left
+  plain_design more = record {
+    device = plain_device silence;
+    fields = w ∷ [];
+    result = λ o. head_result (slice_get (set_head w ∷ check_head w ∷ []) o);
+    cells = all_taken (state_widths (cells_of ls));
+    persistent = all_taken (persistent_widths (cells_of ls) keep);
+    emu = 1 ∷ [];
+    copy = all_taken [];
+    kept = [];
+    start = λ o args cells. start (driver_with more w) o args cells;
+    move = λ x. move ls (driver_with more w) x;
+    move_tests = λ x. move_tests ls (driver_with more w) x;
+    ended = λ x. ended x;
+    ticks_left = λ x. ticks_left x;
+    reply = λ left. reply left;
+    fits_config = λ o x. fits_config ls (driver_with more w) o x;
+  }

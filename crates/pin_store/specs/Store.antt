@@ -1,6 +1,6 @@
 -- The PIN store, part by part, as its texts have it: of circuit, specification, driver and emulator, with a secret of so many bits.
 -- A command 1 sets the secret, a command 2 asks whether the data is the secret, and the answer is shown one tick later.
--- Its leaking variant shows 1 also where the lowest bit of the secret is 0.
+-- Its leaking variant shows 1 also where the lowest bit of the secret is 0; its impatient one has another driver, and its noisy one an answer that power-on leaves open.
 use Rattle.std.specs.Prelude.{ℕ, pos, List, [], ◌∷◌, ◌++◌, codes, Some, None, true, false}
 use Rattle.knox_words.specs.Bits.{bits}
 use Rattle.knox_words.specs.declared.op.Op1.TheVariants.{Not, Redor}
@@ -23,16 +23,17 @@ use Rattle.knox_lang.specs.declared.parts.Body.{Body}
 use Rattle.knox_lang.specs.declared.parts.SpecParts.{SpecParts}
 use Rattle.knox_lang.specs.declared.parts.DriverParts.{DriverParts}
 use Rattle.knox_lang.specs.declared.parts.EmuParts.{EmuParts}
-use Rattle.emu_machine.specs.Meaning.{device_of, design_of}
+use Rattle.driver_machine.specs.Left.{Left}
+use Rattle.device_design.specs.Meaning.{device_of, design_of}
 
 -- ---- the circuit
 
 abbrev pub line : (number : ℕ) → Shape → (symbol : List ℕ) → Line
 line n s symbol = record { number = n; at = n; shape = s; symbol = symbol }
 
--- the cells and their ticks, where the secret and the data have so many bits
-abbrev pub cell_lines : (width : ℕ) → List Line
-cell_lines w =
+-- inputs and cells, where the secret and the data have so many bits
+abbrev pub state_lines : (width : ℕ) → List Line
+state_lines w =
     line 1 (shape.Bitvec 1) []
     ∷ line 2 (shape.Bitvec 2) []
     ∷ line 3 (shape.Bitvec w) []
@@ -45,8 +46,16 @@ cell_lines w =
     ∷ line 10 (shape.State 3) (codes "secret")
     ∷ line 11 (shape.Init 3 (pos 10) (pos 5)) []
     ∷ line 12 (shape.State 1) (codes "ok")
-    ∷ line 13 (shape.Init 1 (pos 12) (pos 4)) []
-    ∷ line 14 (shape.Bin Eq 1 (pos 8) (pos 6)) []
+    ∷ []
+
+-- the answer at power-on
+abbrev pub first_answer : List Line
+first_answer = line 13 (shape.Init 1 (pos 12) (pos 4)) [] ∷ []
+
+-- the ticks of the cells
+abbrev pub tick_lines : List Line
+tick_lines =
+    line 14 (shape.Bin Eq 1 (pos 8) (pos 6)) []
     ∷ line 15 (shape.Ite 3 (pos 14) (pos 9) (pos 10)) []
     ∷ line 16 (shape.Next 3 (pos 10) (pos 15)) []
     ∷ line 17 (shape.Bin Eq 1 (pos 8) (pos 7)) []
@@ -71,8 +80,18 @@ leaked =
     ∷ line 27 (shape.Output (pos 26)) (codes "ok")
     ∷ []
 
+abbrev pub lines : (width : ℕ) → (output : List Line) → List Line
+lines w output = state_lines w ++ (first_answer ++ (tick_lines ++ output))
+
 abbrev pub circuit : (width : ℕ) → (output : List Line) → Circuit
-circuit w output = record { lines = cell_lines w ++ output }
+circuit w output = record { lines = lines w output }
+
+-- that of the noisy variant, whose answer has no word of its own at power-on
+abbrev pub noisy_lines : (width : ℕ) → List Line
+noisy_lines w = state_lines w ++ (tick_lines ++ shown)
+
+abbrev pub noisy_circuit : (width : ℕ) → Circuit
+noisy_circuit w = record { lines = noisy_lines w }
 
 -- ---- expressions and statements
 
@@ -112,10 +131,39 @@ spec w = record {
   bodies = set_body ∷ check_body ∷ [];
 }
 
--- ---- the driver, for the wires alone
+-- ---- the driver
+
+-- gives a command with the argument as data, for one tick
+abbrev pub commanded : (command : ℕ) → List Stmt
+commanded n = stmt.SetInput 0 (expr.Lit (bits 2 n)) ∷ stmt.SetInput 1 (name space.Arg 0) ∷ stmt.Tick ∷ []
+
+-- sets the secret, and then does more
+abbrev pub set_call : (more : List Stmt) → Body
+set_call more = record { locals = []; stmts = commanded 1 ++ more; result = Some (expr.Lit (bits 1 1)) }
+
+abbrev pub check_call : Body
+check_call = record { locals = []; stmts = commanded 2; result = Some (name space.Output 0) }
+
+abbrev pub driver_with : (more : List Stmt) → (width : ℕ) → DriverParts
+driver_with more w = record {
+  idle = bits 2 0 ∷ bits w 0 ∷ [];
+  keep = true ∷ false ∷ [];
+  outs = 1 ∷ [];
+  funs = [];
+  ops = set_head w ∷ check_head w ∷ [];
+  bodies = set_call more ∷ check_call ∷ [];
+}
 
 abbrev pub driver : (width : ℕ) → DriverParts
-driver w = record { idle = bits 2 0 ∷ bits w 0 ∷ []; keep = true ∷ false ∷ []; outs = 1 ∷ []; funs = []; ops = []; bodies = [] }
+driver w = driver_with [] w
+
+-- waits until 1 is shown, and may do no turn
+abbrev pub waits : List Stmt
+waits = stmt.While (expr.Un Not (name space.Output 0)) 0 (stmt.Tick ∷ []) ∷ []
+
+-- the driver whose `set` waits for an answer that doesn't come
+abbrev pub impatient_driver : (width : ℕ) → DriverParts
+impatient_driver w = driver_with waits w
 
 -- ---- the emulator
 
@@ -140,26 +188,45 @@ emu_tick = record { locals = (codes "q", 1) ∷ (codes "r", 1) ∷ []; stmts = e
 abbrev pub nothing : Body
 nothing = record { locals = []; stmts = []; result = None }
 
-abbrev pub emulator : (width : ℕ) → EmuParts
-emulator w = record {
+abbrev pub emulator_with : (noise : List Field) → (power : Body) → (width : ℕ) → EmuParts
+emulator_with ns b w = record {
   fields = field (codes "ok") 1 ∷ [];
   init = bits 1 0 ∷ [];
   copy = false;
   ins = 2 ∷ w ∷ [];
   outs = 1 ∷ [];
-  noise = [];
+  noise = ns;
   cells = record { name = codes "secret"; width = w; index = None; first = 0 } ∷ record { name = codes "ok"; width = 1; index = None; first = 1 } ∷ [];
   funs = [];
   ops = set_head w ∷ check_head w ∷ [];
-  power = nothing;
+  power = b;
   outputs = name space.Own 0 ∷ [];
   tick = emu_tick;
 }
+
+abbrev pub emulator : (width : ℕ) → EmuParts
+emulator w = emulator_with [] nothing w
+
+-- that of the noisy variant shows the noise at power-on
+abbrev pub shows_noise : Body
+shows_noise = record { locals = []; stmts = stmt.Assign (record { space = space.Own; number = 0 }) (name space.Noise 0) ∷ []; result = None }
+
+abbrev pub noisy_emulator : (width : ℕ) → EmuParts
+noisy_emulator w = emulator_with (field (codes "ok") 1 ∷ []) shows_noise w
 
 -- ---- what they mean
 
 abbrev pub device : (width : ℕ) → (output : List Line) → Device
 device w output = device_of (circuit w output) (spec w) (driver w) (emulator w)
 
-abbrev pub design : (width : ℕ) → (output : List Line) → Design (Unit {0})
+abbrev pub design : (width : ℕ) → (output : List Line) → Design Left
 design w output = design_of (circuit w output) (spec w) (driver w) (emulator w)
+
+abbrev pub impatient_device : (width : ℕ) → Device
+impatient_device w = device_of (circuit w shown) (spec w) (impatient_driver w) (emulator w)
+
+abbrev pub impatient_design : (width : ℕ) → Design Left
+impatient_design w = design_of (circuit w shown) (spec w) (impatient_driver w) (emulator w)
+
+abbrev pub noisy_device : (width : ℕ) → Device
+noisy_device w = device_of (noisy_circuit w) (spec w) (driver w) (noisy_emulator w)

@@ -1,4 +1,5 @@
-use Rattle.pin_store.proofs.Shut.{closed, tried, starts, leaks, bits-1, bits-4}
+use Rattle.pin_store.proofs.Shut.{closed, tried, leaks, bits-1, bits-4}
+use Rattle.pin_store.proofs.Agreed.{agreed}
 use Rattle.pin_store.proofs.runs.scripts_are_closed.Goals as goal
 
 pub returns-clause-closed : goal.returns-clause-closed
@@ -7,8 +8,8 @@ returns-clause-closed c = closed
 pub returns-clause-tried : goal.returns-clause-tried
 returns-clause-tried c = tried
 
-pub returns-clause-starts : goal.returns-clause-starts
-returns-clause-starts c = starts
+pub returns-clause-agree : goal.returns-clause-agree
+returns-clause-agree c = agreed
 
 pub returns-clause-leaks : goal.returns-clause-leaks
 returns-clause-leaks c = leaks
