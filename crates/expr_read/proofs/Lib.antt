@@ -1,4 +1,3 @@
 pub mod Weights
 pub mod Parts
 pub mod Lists
-pub mod Missing

@@ -16,7 +16,8 @@ use Rattle.expr_read.specs.declared.names.Named.{Named}
 use Rattle.expr_read.specs.Views.{◌>>=◌, fails, place_of, number_of, symbol_of, is_headed, behind_head, each}
 use Rattle.expr_read.specs.Names.{op_number}
 use Rattle.expr_read.specs.Expressions.{expr_of_width}
-use Rattle.expr_read.proofs.Missing.{is_missing, Never, never-then, never-if, never-number, never-symbol, never-head, never-of-width}
+use Rattle.expr_read.proofs.NotMissing.{is_missing, NotMissing, and-then, either, in-each, in-number, in-symbol, in-head}
+use Rattle.expr_read.proofs.NotMissingExpr.{in-typed}
 use Rattle.script_core.specs.declared.parts.Kind.{Kind}
 use Rattle.script_core.specs.declared.parts.Kind.TheVariants.{Factory, BootHost, Rest, Wait, Call, Wire}
 use Rattle.script_core.specs.declared.parts.ScriptParts.{ScriptParts}
@@ -28,94 +29,92 @@ use Rattle.script_read.specs.declared.draft.Said.TheVariants as said
 use Rattle.script_read.specs.Faults.{why_of, script_fault, of_hints}
 use Rattle.script_read.specs.Scripts.{names_for, limited, condition, sole, operand, stated, cut_in, cut, one_tick, step, leads_to, subsume, wire_in, wire, is_left, once, none_behind, bare, op_at, op_named, call, section, add, nothing, form, forms, is_whole, finished, text, script_text, LacksForm}
 
-never-condition : (names : List Named) (t : Tree) → Never (condition names t)
-never-condition names t = never-then (expr_of_width t 1 names) (λ x. limited (place_of t) x) (never-of-width t 1 names) (λ x. never-if (nat_le x.cost 1000000) (Ok x.expr) (fails (place_of t) Bound) tt refl)
+in-condition : (names : List Named) (t : Tree) → NotMissing (condition names t)
+in-condition names t = and-then (expr_of_width t 1 names) (λ x. limited (place_of t) x) (in-typed t 1 names) (λ x. either (nat_le x.cost 1000000) (Ok x.expr) (fails (place_of t) Bound) tt refl)
 
 -- ---- forms
 
-never-sole : (at : Place) (ts : List Tree) → Never (sole at ts)
-never-sole at [] = refl
-never-sole at (x ∷ []) = tt
-never-sole at (x ∷ y ∷ ts) = refl
+in-sole : (at : Place) (ts : List Tree) → NotMissing (sole at ts)
+in-sole at [] = refl
+in-sole at (x ∷ []) = tt
+in-sole at (x ∷ y ∷ ts) = refl
 
-never-operand : (w : List ℕ) (t : Tree) → Never (operand w t)
-never-operand w t = never-then (behind_head w t) (λ parts. sole (place_of t) parts) (never-head w t) (λ parts. never-sole (place_of t) parts)
+in-operand : (w : List ℕ) (t : Tree) → NotMissing (operand w t)
+in-operand w t = and-then (behind_head w t) (λ parts. sole (place_of t) parts) (in-head w t) (λ parts. in-sole (place_of t) parts)
 
-never-stated : (known : Bool) (w : List ℕ) (names : List Named) (t : Tree) → Never (stated known w names t)
-never-stated true w names t = refl
-never-stated false w names t = never-then (operand w t) (λ e. condition names e) (never-operand w t) (λ e. never-condition names e)
+in-stated : (known : Bool) (w : List ℕ) (names : List Named) (t : Tree) → NotMissing (stated known w names t)
+in-stated true w names t = refl
+in-stated false w names t = and-then (operand w t) (λ e. condition names e) (in-operand w t) (λ e. in-condition names e)
 
-never-cut-in : (names : List Named) (at : Place) (ts : List Tree) → Never (cut_in names at ts)
-never-cut-in names at [] = refl
-never-cut-in names at (a ∷ []) = refl
-never-cut-in names at (a ∷ e ∷ []) = never-then (symbol_of a) _ (never-symbol a) (λ name. never-then (condition names e) (λ c. Ok (name, c)) (never-condition names e) (λ c. tt))
-never-cut-in names at (a ∷ e ∷ b ∷ ts) = refl
+in-cut-in : (names : List Named) (at : Place) (ts : List Tree) → NotMissing (cut_in names at ts)
+in-cut-in names at [] = refl
+in-cut-in names at (a ∷ []) = refl
+in-cut-in names at (a ∷ e ∷ []) = and-then (symbol_of a) _ (in-symbol a) (λ name. and-then (condition names e) (λ c. Ok (name, c)) (in-condition names e) (λ c. tt))
+in-cut-in names at (a ∷ e ∷ b ∷ ts) = refl
 
-never-cut : (names : List Named) (t : Tree) → Never (cut names t)
-never-cut names t = never-then (behind_head (codes "cut") t) (λ parts. cut_in names (place_of t) parts) (never-head (codes "cut") t) (λ parts. never-cut-in names (place_of t) parts)
+in-cut : (names : List Named) (t : Tree) → NotMissing (cut names t)
+in-cut names t = and-then (behind_head (codes "cut") t) (λ parts. cut_in names (place_of t) parts) (in-head (codes "cut") t) (λ parts. in-cut-in names (place_of t) parts)
 
-never-step : (t : Tree) → Never (step t)
-never-step t =
-    never-then (operand (codes "step") t) (λ n. one_tick n) (never-operand (codes "step") t)
-    (λ n. never-then (number_of n) (λ k. if k == 1 then Ok tt else fails (place_of n) Bound) (never-number n) (λ k. never-if (k == 1) (Ok tt) (fails (place_of n) Bound) tt refl))
+in-step : (t : Tree) → NotMissing (step t)
+in-step t =
+    and-then (operand (codes "step") t) (λ n. one_tick n) (in-operand (codes "step") t)
+    (λ n. and-then (number_of n) (λ k. if k == 1 then Ok tt else fails (place_of n) Bound) (in-number n) (λ k. either (k == 1) (Ok tt) (fails (place_of n) Bound) tt refl))
 
-never-subsume : (name : List ℕ) (t : Tree) → Never (subsume name t)
-never-subsume name t =
-    never-then (operand (codes "subsume") t) (λ a. leads_to name a) (never-operand (codes "subsume") t)
-    (λ a. never-then (symbol_of a) (λ led. if bytes_eq led name then Ok tt else fails (place_of a) UnknownName) (never-symbol a)
-    (λ led. never-if (bytes_eq led name) (Ok tt) (fails (place_of a) UnknownName) tt refl))
+in-subsume : (name : List ℕ) (t : Tree) → NotMissing (subsume name t)
+in-subsume name t =
+    and-then (operand (codes "subsume") t) (λ a. leads_to name a) (in-operand (codes "subsume") t)
+    (λ a. and-then (symbol_of a) (λ led. if bytes_eq led name then Ok tt else fails (place_of a) UnknownName) (in-symbol a)
+    (λ led. either (bytes_eq led name) (Ok tt) (fails (place_of a) UnknownName) tt refl))
 
-never-wire-in : (names : List Named) (at : Place) (ts : List Tree) → Never (wire_in names at ts)
-never-wire-in names at [] = refl
-never-wire-in names at (a ∷ []) = refl
-never-wire-in names at (a ∷ b ∷ []) = refl
-never-wire-in names at (a ∷ b ∷ c ∷ []) =
-    never-then (cut names a) _ (never-cut names a) (λ x. never-then (step b) (λ stepped. subsume x.0 c >>= λ led. Ok x.1) (never-step b) (λ stepped. never-then (subsume x.0 c) (λ led. Ok x.1) (never-subsume x.0 c) (λ led. tt)))
-never-wire-in names at (a ∷ b ∷ c ∷ d ∷ ts) = refl
+in-wire-in : (names : List Named) (at : Place) (ts : List Tree) → NotMissing (wire_in names at ts)
+in-wire-in names at [] = refl
+in-wire-in names at (a ∷ []) = refl
+in-wire-in names at (a ∷ b ∷ []) = refl
+in-wire-in names at (a ∷ b ∷ c ∷ []) =
+    and-then (cut names a) _ (in-cut names a) (λ x. and-then (step b) (λ stepped. subsume x.0 c >>= λ led. Ok x.1) (in-step b) (λ stepped. and-then (subsume x.0 c) (λ led. Ok x.1) (in-subsume x.0 c) (λ led. tt)))
+in-wire-in names at (a ∷ b ∷ c ∷ d ∷ ts) = refl
 
-never-wire : (names : List Named) (t : Tree) → Never (wire names t)
-never-wire names t = never-then (behind_head (codes "wire") t) (λ parts. wire_in names (place_of t) parts) (never-head (codes "wire") t) (λ parts. never-wire-in names (place_of t) parts)
+in-wire : (names : List Named) (t : Tree) → NotMissing (wire names t)
+in-wire names t = and-then (behind_head (codes "wire") t) (λ parts. wire_in names (place_of t) parts) (in-head (codes "wire") t) (λ parts. in-wire-in names (place_of t) parts)
 
-never-bare : (w : List ℕ) (k : Kind) (left : List Kind) (t : Tree) → Never (bare w k left t)
-never-bare w k left t =
-    never-then (behind_head w t) (λ parts. none_behind (place_of t) parts >>= λ alone. once (place_of t) Form k left) (never-head w t)
-    (λ parts. never-then (none_behind (place_of t) parts) (λ alone. once (place_of t) Form k left) (none parts) (λ alone. never-if (is_left k left) (Ok (said.Host k)) (fails (place_of t) Form) tt refl)) where
-      none : (parts : List Tree) → Never (none_behind (place_of t) parts)
+in-bare : (w : List ℕ) (k : Kind) (left : List Kind) (t : Tree) → NotMissing (bare w k left t)
+in-bare w k left t =
+    and-then (behind_head w t) (λ parts. none_behind (place_of t) parts >>= λ alone. once (place_of t) Form k left) (in-head w t)
+    (λ parts. and-then (none_behind (place_of t) parts) (λ alone. once (place_of t) Form k left) (none parts) (λ alone. either (is_left k left) (Ok (said.Host k)) (fails (place_of t) Form) tt refl)) where
+      none : (parts : List Tree) → NotMissing (none_behind (place_of t) parts)
       none [] = tt
       none (x ∷ xs) = refl
 
-never-op : (at : Place) (o : Option ℕ) → Never (op_at at o)
-never-op at None = refl
-never-op at (Some n) = tt
+in-op : (at : Place) (o : Option ℕ) → NotMissing (op_at at o)
+in-op at None = refl
+in-op at (Some n) = tt
 
-never-call : (ops : List OpHead) (left : List Kind) (t : Tree) → Never (call ops left t)
-never-call ops left t =
-    never-then (operand (codes "call") t) (λ x. op_named ops x >>= λ o. once (place_of x) Twice (Call o) left) (never-operand (codes "call") t)
-    (λ x. never-then (op_named ops x) (λ o. once (place_of x) Twice (Call o) left)
-    (never-then (symbol_of x) (λ name. op_at (place_of x) (op_number name ops)) (never-symbol x) (λ name. never-op (place_of x) (op_number name ops)))
-    (λ o. never-if (is_left (Call o) left) (Ok (said.Host (Call o))) (fails (place_of x) Twice) tt refl))
+in-call : (ops : List OpHead) (left : List Kind) (t : Tree) → NotMissing (call ops left t)
+in-call ops left t =
+    and-then (operand (codes "call") t) (λ x. op_named ops x >>= λ o. once (place_of x) Twice (Call o) left) (in-operand (codes "call") t)
+    (λ x. and-then (op_named ops x) (λ o. once (place_of x) Twice (Call o) left)
+    (and-then (symbol_of x) (λ name. op_at (place_of x) (op_number name ops)) (in-symbol x) (λ name. in-op (place_of x) (op_number name ops)))
+    (λ o. either (is_left (Call o) left) (Ok (said.Host (Call o))) (fails (place_of x) Twice) tt refl))
 
-never-section : (names : Names) (ops : List OpHead) (left : List Kind) (t : Tree) → Never (section names ops left t)
-never-section names ops left t =
-    never-if (is_headed (codes "factory") t) _ _ (never-bare (codes "factory") Factory left t)
-    (never-if (is_headed (codes "boot-host") t) _ _ (never-bare (codes "boot-host") BootHost left t)
-    (never-if (is_headed (codes "rest") t) _ _ (never-bare (codes "rest") Rest left t)
-    (never-if (is_headed (codes "wait") t) _ _ (never-bare (codes "wait") Wait left t)
-    (never-if (is_headed (codes "call") t) _ _ (never-call ops left t)
-    (never-if (is_headed (codes "wire") t) _ (fails (place_of t) Form)
-    (never-if (is_left Wire left) (wire names.cut t >>= λ c. Ok (said.Wire c)) (fails (place_of t) Form) (never-then (wire names.cut t) (λ c. Ok (said.Wire c)) (never-wire names.cut t) (λ c. tt)) refl)
+in-section : (names : Names) (ops : List OpHead) (left : List Kind) (t : Tree) → NotMissing (section names ops left t)
+in-section names ops left t =
+    either (is_headed (codes "factory") t) _ _ (in-bare (codes "factory") Factory left t)
+    (either (is_headed (codes "boot-host") t) _ _ (in-bare (codes "boot-host") BootHost left t)
+    (either (is_headed (codes "rest") t) _ _ (in-bare (codes "rest") Rest left t)
+    (either (is_headed (codes "wait") t) _ _ (in-bare (codes "wait") Wait left t)
+    (either (is_headed (codes "call") t) _ _ (in-call ops left t)
+    (either (is_headed (codes "wire") t) _ (fails (place_of t) Form)
+    (either (is_left Wire left) (wire names.cut t >>= λ c. Ok (said.Wire c)) (fails (place_of t) Form) (and-then (wire names.cut t) (λ c. Ok (said.Wire c)) (in-wire names.cut t) (λ c. tt)) refl)
     refl)))))
 
-never-form : (names : Names) (ops : List OpHead) (d : Draft) (t : Tree) → Never (form names ops d t)
-never-form names ops d t =
-    never-if (is_headed (codes "refine") t) _ _ (never-then (stated (is_some d.refine) (codes "refine") names.refine t) (λ e. Ok (said.Refine e)) (never-stated (is_some d.refine) (codes "refine") names.refine t) (λ e. tt))
-    (never-if (is_headed (codes "idle") t) _ _ (never-then (stated (is_some d.idle) (codes "idle") names.idle t) (λ e. Ok (said.Idle e)) (never-stated (is_some d.idle) (codes "idle") names.idle t) (λ e. tt))
-    (never-section names ops d.left t))
+in-form : (names : Names) (ops : List OpHead) (d : Draft) (t : Tree) → NotMissing (form names ops d t)
+in-form names ops d t =
+    either (is_headed (codes "refine") t) _ _ (and-then (stated (is_some d.refine) (codes "refine") names.refine t) (λ e. Ok (said.Refine e)) (in-stated (is_some d.refine) (codes "refine") names.refine t) (λ e. tt))
+    (either (is_headed (codes "idle") t) _ _ (and-then (stated (is_some d.idle) (codes "idle") names.idle t) (λ e. Ok (said.Idle e)) (in-stated (is_some d.idle) (codes "idle") names.idle t) (λ e. tt))
+    (in-section names ops d.left t))
 
-never-forms : (names : Names) (ops : List OpHead) (d : Draft) (ts : List Tree) → Never (forms names ops d ts)
-unfolding each
-never-forms names ops d [] = tt
-never-forms names ops d (t ∷ ts) = never-then (form names ops d t) (λ x. forms names ops (add d x) ts) (never-form names ops d t) (λ x. never-forms names ops (add d x) ts)
+in-forms : (names : Names) (ops : List OpHead) (d : Draft) (ts : List Tree) → NotMissing (forms names ops d ts)
+in-forms names ops d ts = in-each (form names ops) add d ts (λ before t. in-form names ops before t)
 
 -- ---- texts
 
@@ -153,7 +152,7 @@ record Lacks (names : Names) (ops : List OpHead) (end : Place) (ts : List Tree) 
   lacks : LacksForm names ops ts
   fault : f ≡ record { place = end; why = Missing }
 
-lacks-at : (names : Names) (ops : List OpHead) (end : Place) (ts : List Tree) (f : LangFault) (r : Result Draft LangFault) → forms names ops (nothing (length ops)) ts ≡ r → Never r → (r >>= λ d. finished end d) ≡ Err f → is_missing f.why ≡ true → Lacks names ops end ts f
+lacks-at : (names : Names) (ops : List OpHead) (end : Place) (ts : List Tree) (f : LangFault) (r : Result Draft LangFault) → forms names ops (nothing (length ops)) ts ≡ r → NotMissing r → (r >>= λ d. finished end d) ≡ Err f → is_missing f.why ≡ true → Lacks names ops end ts f
 lacks-at names ops end ts f (Ok d) e n h m =
     let x = ends-in end d f d.refine d.idle d.left refl refl refl h in
     record { lacks = record { read = d; reads = e; lacks = x.lacks }; fault = x.fault }
@@ -186,7 +185,7 @@ lacks c s d e end ts f h m =
     let names = names_for c s d e in
     let x = refused (text names s.ops end ts) f h in
     let why : is_missing x.fault.why ≡ true = missing-why x.fault.why (ap (λ (g : ScriptFault). g.why) x.said ∙ m) in
-    let y = lacks-at names s.ops end ts x.fault (forms names s.ops (nothing (length s.ops)) ts) refl (never-forms names s.ops (nothing (length s.ops)) ts) x.read why in
+    let y = lacks-at names s.ops end ts x.fault (forms names s.ops (nothing (length s.ops)) ts) refl (in-forms names s.ops (nothing (length s.ops)) ts) x.read why in
     (y.lacks, sym x.said ∙ ap script_fault y.fault)
 
 pub is-lacking : (c : Circuit) (s : SpecParts) (d : DriverParts) (e : EmuParts) (end : Place) (ts : List Tree) (f : ScriptFault) → LacksForm (names_for c s d e) s.ops ts → f ≡ record { place = end; why = script.Missing } →
