@@ -1,3 +1,5 @@
 pub mod Weights
 pub mod Parts
 pub mod Lists
+pub mod NotMissing
+pub mod NotMissingExpr

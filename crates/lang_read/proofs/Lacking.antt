@@ -1,32 +1,71 @@
--- A driver that calls one of two operations, read.
-use Rattle.std.proofs.Common.{◌≡◌, ℕ, List, [], ◌∷◌, refl, sym, ap, ◌∙◌, Result, Ok, Bool, true, false}
+-- Drivers that lack a call, read.
+use Rattle.std.proofs.Common.{◌≡◌, List, [], ◌∷◌, refl, Some, Ok, true, false}
 use Rattle.std.specs.Prelude.{codes}
-use Rattle.knox_text.specs.declared.place.Place.{Place}
 use Rattle.knox_text.specs.Examples.{place}
+use Rattle.knox_words.specs.Bits.{bits}
 use Rattle.knox_sexpr.specs.declared.tree.Tree.{Tree, out-Tree}
 use Rattle.knox_sexpr.specs.declared.tree.Tree.TheVariants as trees
 use Rattle.knox_sexpr.specs.declared.tree.Tree.TheOpen.{Tree-F}
-use Rattle.expr_read.specs.declared.faults.LangWhy.TheVariants.{Missing}
-use Rattle.expr_read.specs.Views.{fails}
-use Rattle.lang_read.specs.Calls.{is_called, has_call}
+use Rattle.knox_lang.specs.declared.expr.Expr.TheVariants.{Lit}
+use Rattle.knox_lang.specs.declared.parts.Body.{Body}
+use Rattle.expr_read.specs.declared.faults.LangWhy.TheVariants.{Form, Missing}
+use Rattle.expr_read.specs.declared.names.Named.{Named}
+use Rattle.expr_read.specs.Views.{fails, is_headed, each}
+use Rattle.expr_read.specs.Expressions.{expr_of, literal}
+use Rattle.expr_read.proofs.Parts.{expr-Number}
+use Rattle.lang_read.specs.declared.statement.Home.{Home}
+use Rattle.lang_read.specs.Calls.{call, is_call}
 use Rattle.lang_read.specs.Drivers.{driver_text}
-use Rattle.lang_read.specs.Examples.{no_lines, two_ops, only_set}
+use Rattle.lang_read.specs.Examples.{no_lines, two_ops, bare, no_list, only_set}
 
--- (call x r), whatever r is
-called-set : (u k n r : Tree) → out-Tree u ≡ Tree-F.List (place 1 9) (k ∷ n ∷ r ∷ []) (place 1 30) → out-Tree k ≡ Tree-F.Atom (place 1 10) (codes "call") → out-Tree n ≡ Tree-F.Atom (place 1 15) (codes "set") →
-    is_called (codes "set") (u ∷ []) ≡ true
-called-set u k n r us ks ns = rw us (rw (ks, ns) refl)
+calls-none : (t h : Tree) → out-Tree t ≡ Tree-F.List (place 1 1) (h ∷ []) (place 1 8) → out-Tree h ≡ Tree-F.Atom (place 1 2) (codes "driver") → driver_text no_lines two_ops (place 1 9) (t ∷ []) ≡ fails (place 1 1) Missing
+unfolding each
+calls-none t h ts hs = rw ts (rw hs refl)
 
-called-check : (u k n r : Tree) → out-Tree u ≡ Tree-F.List (place 1 9) (k ∷ n ∷ r ∷ []) (place 1 30) → out-Tree k ≡ Tree-F.Atom (place 1 10) (codes "call") → out-Tree n ≡ Tree-F.Atom (place 1 15) (codes "set") →
-    is_called (codes "check") (u ∷ []) ≡ false
-called-check u k n r us ks ns = rw us (rw (ks, ns) refl)
+pub none : driver_text no_lines two_ops (place 1 9) (bare ∷ []) ≡ fails (place 1 1) Missing
+none = calls-none _ _ (trees.outs-List _ _ _) (trees.outs-Atom _ _)
 
-calls : (u k n r : Tree) → out-Tree u ≡ Tree-F.List (place 1 9) (k ∷ n ∷ r ∷ []) (place 1 30) → out-Tree k ≡ Tree-F.Atom (place 1 10) (codes "call") → has_call (u ∷ []) ≡ true
-calls u k n r us ks = rw us (rw ks refl)
+has-word : (t h u : Tree) → out-Tree t ≡ Tree-F.List (place 1 1) (h ∷ u ∷ []) (place 1 12) → out-Tree h ≡ Tree-F.Atom (place 1 2) (codes "driver") → out-Tree u ≡ Tree-F.Atom (place 1 9) (codes "set") →
+    driver_text no_lines two_ops (place 1 13) (t ∷ []) ≡ fails (place 1 9) Form
+unfolding each
+has-word t h u ts hs us = rw ts (rw hs (rw us (rw us (rw us refl))))
 
-lacking : (t h u k n r : Tree) → out-Tree t ≡ Tree-F.List (place 1 1) (h ∷ u ∷ []) (place 1 31) → out-Tree h ≡ Tree-F.Atom (place 1 2) (codes "driver") → out-Tree u ≡ Tree-F.List (place 1 9) (k ∷ n ∷ r ∷ []) (place 1 30) →
-    out-Tree k ≡ Tree-F.Atom (place 1 10) (codes "call") → out-Tree n ≡ Tree-F.Atom (place 1 15) (codes "set") → driver_text no_lines two_ops (place 1 32) (t ∷ []) ≡ fails (place 1 1) Missing
-lacking t h u k n r ts hs us ks ns = rw ts (rw hs (rw (calls u k n r us ks) (rw (called-set u k n r us ks ns) (rw (called-check u k n r us ks ns) refl))))
+pub other : driver_text no_lines two_ops (place 1 13) (no_list ∷ []) ≡ fails (place 1 9) Form
+other = has-word _ _ _ (trees.outs-List _ _ _) (trees.outs-Atom _ _) (trees.outs-Atom _ _)
 
-pub only-set : (r : Tree) → driver_text no_lines two_ops (place 1 32) (only_set r ∷ []) ≡ fails (place 1 1) Missing
-only-set r = lacking _ _ _ _ _ r (trees.outs-List _ _ _) (trees.outs-Atom _ _) (trees.outs-List _ _ _) (trees.outs-Atom _ _) (trees.outs-Atom _ _)
+follows : (t h u : Tree) → out-Tree t ≡ Tree-F.List (place 1 1) (h ∷ []) (place 1 8) → out-Tree h ≡ Tree-F.Atom (place 1 2) (codes "driver") → out-Tree u ≡ Tree-F.List (place 1 10) [] (place 1 11) →
+    driver_text no_lines two_ops (place 1 12) (t ∷ u ∷ []) ≡ fails (place 1 10) Form
+unfolding each
+follows t h u ts hs us = rw ts (rw hs (rw us refl))
+
+pub behind : driver_text no_lines two_ops (place 1 12) (bare ∷ trees.List (place 1 10) [] (place 1 11) ∷ []) ≡ fails (place 1 10) Form
+behind = follows _ _ _ (trees.outs-List _ _ _) (trees.outs-Atom _ _) (trees.outs-List _ _ _)
+
+-- (call set (result #b1)), whose result is read
+module _ (u k n r q v : Tree) (us : out-Tree u ≡ Tree-F.List (place 1 9) (k ∷ n ∷ r ∷ []) (place 1 31)) (ks : out-Tree k ≡ Tree-F.Atom (place 1 10) (codes "call")) (ns : out-Tree n ≡ Tree-F.Atom (place 1 15) (codes "set"))
+    (rs : out-Tree r ≡ Tree-F.List (place 1 19) (q ∷ v ∷ []) (place 1 30)) (qs : out-Tree q ≡ Tree-F.Atom (place 1 20) (codes "result")) (vs : expr_of v ≡ (λ (names : List Named). literal (place 1 27) 1 1)) where
+  names-no-cells : is_headed (codes "persistent") u ≡ false
+  names-no-cells = rw us (rw ks refl)
+
+  gives-no-words : is_headed (codes "idle") u ≡ false
+  gives-no-words = rw us (rw ks refl)
+
+  abbrev bit : Body
+  bit = record { locals = []; stmts = []; result = Some (Lit (bits 1 1)) }
+
+  is-read : (home : Home) (names : List Named) → call home two_ops.ops names [] u ≡ Ok (0, bit)
+  unfolding each
+  is-read home names = rw us (rw ks (rw rs (rw qs (rw ns (rw vs refl)))))
+
+  calls-set : is_call (codes "set") u ≡ true
+  calls-set = rw us (rw ks (rw ns refl))
+
+  calls-no-check : is_call (codes "check") u ≡ false
+  calls-no-check = rw us (rw ks (rw ns refl))
+
+  calls-one : (t h : Tree) → out-Tree t ≡ Tree-F.List (place 1 1) (h ∷ u ∷ []) (place 1 32) → out-Tree h ≡ Tree-F.Atom (place 1 2) (codes "driver") → driver_text no_lines two_ops (place 1 33) (t ∷ []) ≡ fails (place 1 1) Missing
+  unfolding each
+  calls-one t h ts hs = rw ts (rw hs (rw names-no-cells (rw gives-no-words (rw is-read (rw calls-set (rw calls-no-check refl))))))
+
+pub one : driver_text no_lines two_ops (place 1 33) (only_set ∷ []) ≡ fails (place 1 1) Missing
+one = calls-one _ _ _ _ _ _ (trees.outs-List _ _ _) (trees.outs-Atom _ _) (trees.outs-Atom _ _) (trees.outs-List _ _ _) (trees.outs-Atom _ _) (expr-Number _ _ _) _ _ (trees.outs-List _ _ _) (trees.outs-Atom _ _)

@@ -3,3 +3,5 @@ mod Endings
 mod Faults
 mod Filled
 mod Parts
+mod NotMissingStmt
+mod NotMissingDriver

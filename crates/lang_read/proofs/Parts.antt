@@ -10,7 +10,7 @@ use Rattle.knox_sexpr.proofs.Meaning.{by_parts}
 use Rattle.expr_read.specs.declared.names.Named.{Named}
 use Rattle.expr_read.specs.declared.faults.LangFault.{LangFault}
 use Rattle.expr_read.specs.declared.faults.LangWhy.TheVariants.{Form}
-use Rattle.expr_read.specs.Views.{◌>>=◌, fails, each}
+use Rattle.expr_read.specs.Views.{◌>>=◌, fails, place_of, each}
 use Rattle.lang_read.specs.declared.statement.Home.{Home}
 use Rattle.lang_read.specs.declared.statement.Keyword.{Keyword}
 use Rattle.lang_read.specs.declared.statement.Keyword.TheVariants.{Assign, Query, SetInput, Tick}
@@ -82,11 +82,11 @@ inner-List home t at close ts names e =
     sym (ap (λ (u : Tree). inner_of home u names) e ∙ ap (λ (p : StmtPart). p.block home names) (part-List at close ts) ∙ each-part home ts names no_steps)
 
 -- the first part, and what follows it
-pub list-is : (home : Home) (at : Place) (ts : List Tree) (h : Tree) (names : List Named) → 1 ≤ length ts → h ≡ get_or ts 0 h → form home at (keyword_of home h) (map stmt_part (take (length ts - 1) (drop 1 ts))) names ≡ begun home at (map stmt_part ts) names
+pub list-is : (home : Home) (at : Place) (ts : List Tree) (h : Tree) (names : List Named) → 1 ≤ length ts → h ≡ get_or ts 0 h → form home at (place_of h) (keyword_of home h) (map stmt_part (take (length ts - 1) (drop 1 ts))) names ≡ begun home at (map stmt_part ts) names
 list-is home at [] h names le e = absurd (omega arith)
 list-is home at (t ∷ ts) h names le e =
     let rest : take (length (t ∷ ts) - 1) ts ≡ ts = take_all (length (t ∷ ts) - 1) ts (omega arith) in
-    rw rest (ap (λ (x : Tree). form home at (keyword_of home x) (map stmt_part ts) names) (e ∙ sym (tree-part t)))
+    rw rest (ap (λ (x : Tree). form home at (place_of x) (keyword_of home x) (map stmt_part ts) names) (e ∙ sym (tree-part t)))
 
 pub branch-is : (home : Home) (at : Place) (ts : List Tree) (e a b : Tree) (names : List Named) → 3 ≤ length ts → length ts < 4 → e ≡ get_or ts 0 e → a ≡ get_or ts 1 a → b ≡ get_or ts 2 b → branched home e (stmt_part a) (stmt_part b) names ≡ branch home at (map stmt_part ts) names
 branch-is home at [] e a b names le lt p q r = absurd (omega arith)
@@ -98,21 +98,21 @@ branch-is home at (t ∷ u ∷ v ∷ []) e a b names le lt p q r =
     ∙ ap (λ (x : Tree). branched home (stmt_part t).tree (stmt_part u) (stmt_part x) names) r
 branch-is home at (t ∷ u ∷ v ∷ w ∷ ts) e a b names le lt p q r = absurd (omega arith)
 
-pub assign-is : (home : Home) (at : Place) (word : Keyword) (ts : List Tree) (names : List Named) → word ≡ Assign → assign at ts names ≡ form home at word (map stmt_part ts) names
-assign-is home at word ts names e =
-    ap (λ (us : List Tree). assign at us names) (sym (trees-kept ts)) ∙ ap (λ (k : Keyword). form home at k (map stmt_part ts) names) (sym e)
+pub assign-is : (home : Home) (at head_place : Place) (word : Keyword) (ts : List Tree) (names : List Named) → word ≡ Assign → assign at ts names ≡ form home at head_place word (map stmt_part ts) names
+assign-is home at head_place word ts names e =
+    ap (λ (us : List Tree). assign at us names) (sym (trees-kept ts)) ∙ ap (λ (k : Keyword). form home at head_place k (map stmt_part ts) names) (sym e)
 
-pub query-is : (home : Home) (at : Place) (word : Keyword) (ts : List Tree) (names : List Named) → word ≡ Query → query at ts names (ops_in home) ≡ form home at word (map stmt_part ts) names
-query-is home at word ts names e =
-    ap (λ (us : List Tree). query at us names (ops_in home)) (sym (trees-kept ts)) ∙ ap (λ (k : Keyword). form home at k (map stmt_part ts) names) (sym e)
+pub query-is : (home : Home) (at head_place : Place) (word : Keyword) (ts : List Tree) (names : List Named) → word ≡ Query → query at ts names (ops_in home) ≡ form home at head_place word (map stmt_part ts) names
+query-is home at head_place word ts names e =
+    ap (λ (us : List Tree). query at us names (ops_in home)) (sym (trees-kept ts)) ∙ ap (λ (k : Keyword). form home at head_place k (map stmt_part ts) names) (sym e)
 
-pub set_input-is : (home : Home) (at : Place) (word : Keyword) (ts : List Tree) (names : List Named) → word ≡ SetInput → set_input (inputs_in home) at ts names ≡ form home at word (map stmt_part ts) names
-set_input-is home at word ts names e =
-    ap (λ (us : List Tree). set_input (inputs_in home) at us names) (sym (trees-kept ts)) ∙ ap (λ (k : Keyword). form home at k (map stmt_part ts) names) (sym e)
+pub set_input-is : (home : Home) (at head_place : Place) (word : Keyword) (ts : List Tree) (names : List Named) → word ≡ SetInput → set_input (inputs_in home) at ts names ≡ form home at head_place word (map stmt_part ts) names
+set_input-is home at head_place word ts names e =
+    ap (λ (us : List Tree). set_input (inputs_in home) at us names) (sym (trees-kept ts)) ∙ ap (λ (k : Keyword). form home at head_place k (map stmt_part ts) names) (sym e)
 
-pub tick-is : (home : Home) (at : Place) (word : Keyword) (ts : List Tree) (names : List Named) → word ≡ Tick → tick at ts ≡ form home at word (map stmt_part ts) names
-tick-is home at word ts names e =
-    ap (λ (us : List Tree). tick at us) (sym (trees-kept ts)) ∙ ap (λ (k : Keyword). form home at k (map stmt_part ts) names) (sym e)
+pub tick-is : (home : Home) (at head_place : Place) (word : Keyword) (ts : List Tree) (names : List Named) → word ≡ Tick → tick at ts ≡ form home at head_place word (map stmt_part ts) names
+tick-is home at head_place word ts names e =
+    ap (λ (us : List Tree). tick at us) (sym (trees-kept ts)) ∙ ap (λ (k : Keyword). form home at head_place k (map stmt_part ts) names) (sym e)
 
 -- a test, a number, and what follows them
 pub repeat-is : (home : Home) (at : Place) (ts : List Tree) (e n : Tree) (names : List Named) → 2 ≤ length ts → e ≡ get_or ts 0 e → n ≡ get_or ts 1 n → repeated e n (block_of home (take (length ts - 2) (drop 2 ts)) names) names ≡ repeat home at (map stmt_part ts) names

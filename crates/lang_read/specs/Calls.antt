@@ -17,16 +17,16 @@ use Rattle.lang_read.specs.Entries.{is_entered, filled}
 use Rattle.lang_read.specs.Statements.{op_of}
 use Rattle.lang_read.specs.Bodies.{empty_body, replying_body, cut_last}
 
--- the call of an operation, whose list is at a place: the operation's number, and the body, which
--- sees the operation's arguments, and may cost 10,000,000
-abbrev pub called : Home → List Named → Place → List (ℕ × Body) → List Tree → Tree → ℕ → OpHead → Result (ℕ × Body) LangFault
-called home names at before ts last k head =
-    if is_entered k before then fails at Twice
+-- the call of an operation that a tree names, whose list is at a place: the operation's number, and
+-- the body, which sees the operation's arguments, and may cost 10,000,000
+abbrev pub called : Home → List Named → Place → List (ℕ × Body) → Tree → List Tree → Tree → ℕ → OpHead → Result (ℕ × Body) LangFault
+called home names at before x ts last k head =
+    if is_entered k before then fails (place_of x) Twice
     else (replying_body home 10000000 at (names ++ numbered Arg 0 head.args) head.result ts last >>= λ body. Ok (k, body))
 
 -- the call of the operation that a tree names
 abbrev pub call_named : Home → List OpHead → List Named → Place → List (ℕ × Body) → Tree → List Tree → Tree → Result (ℕ × Body) LangFault
-call_named home ops names at before x ts last = op_of x ops >>= λ o. called home names at before ts last o.0 o.1
+call_named home ops names at before x ts last = op_of x ops >>= λ o. called home names at before x ts last o.0 o.1
 
 abbrev pub call_ending : Home → List OpHead → List Named → Place → List (ℕ × Body) → Tree → Option (List Tree × Tree) → Result (ℕ × Body) LangFault
 call_ending home ops names at before x None = fails at Form
@@ -70,7 +70,3 @@ is_called name (t ∷ ts) = if is_call name t then true else is_called name ts
 abbrev pub all_called : List OpHead → List Tree → Bool
 all_called [] ts = true
 all_called (o ∷ os) ts = if is_called o.name ts then all_called os ts else false
-
-abbrev pub has_call : List Tree → Bool
-has_call [] = false
-has_call (t ∷ ts) = if is_headed (codes "call") t then true else has_call ts

@@ -1,7 +1,9 @@
 -- Which driver the trees of a text mean: (driver (persistent x ..) (idle (x n) ..) (call op (local
 -- x w) .. stmt .. (result e)) ..), where the first two may be left out, and calls stand in any
--- order. Each operation has one call; a text without any is, for now, one for wires alone.
-use Rattle.std.specs.Prelude.{ℕ, suc, ◌==◌, Bool, true, false, if◌then◌else◌, List, [], ◌∷◌, map, reverse, codes, Result, Ok}
+-- order. Each operation has one call. The languages aren't read whole yet, so that a call may stand
+-- in a form that isn't read: one that is missing is told where all else is read, and no fault stands
+-- behind it.
+use Rattle.std.specs.Prelude.{◌≡◌, ℕ, suc, ◌==◌, Bool, true, false, if◌then◌else◌, List, [], ◌∷◌, map, reverse, codes, Result, Ok}
 use Rattle.knox_text.specs.declared.place.Place.{Place}
 use Rattle.knox_sexpr.specs.declared.tree.Tree.{Tree}
 use Rattle.knox_words.specs.Bits.{Bits, bits, is_word, word_or}
@@ -25,7 +27,7 @@ use Rattle.expr_read.specs.Views.{◌>>=◌, fails, place_of, number_of, parts_o
 use Rattle.expr_read.specs.Names.{seen_of, cell_names, port_names, and_last}
 use Rattle.lang_read.specs.declared.statement.Home.TheVariants.{Driver}
 use Rattle.lang_read.specs.Entries.{form_trees, behind_form, new_entry, filled}
-use Rattle.lang_read.specs.Calls.{calls_of, bodies_of, all_called, has_call}
+use Rattle.lang_read.specs.Calls.{calls_of, bodies_of, all_called}
 
 -- ---- (persistent x ..)
 
@@ -65,14 +67,14 @@ keep_of cells ts = form_trees (codes "persistent") ts >>= λ names. persistent c
 abbrev pub idle_word : Seen → Place → ℕ → Result (ℕ × Bits) LangFault
 idle_word s at n = if is_word (bits s.width n) then Ok (s.slot.number, bits s.width n) else fails at Width
 
-abbrev pub idled : List Named → Place → List (ℕ × Bits) → Tree → Tree → Result (ℕ × Bits) LangFault
-idled inputs at before x n = do
-  s ← new_entry groups.Input inputs at before x
+abbrev pub idled : List Named → List (ℕ × Bits) → Tree → Tree → Result (ℕ × Bits) LangFault
+idled inputs before x n = do
+  s ← new_entry groups.Input inputs before x
   value ← number_of n
   idle_word s (place_of n) value
 
 abbrev pub idle_in : List Named → Place → List (ℕ × Bits) → List Tree → Result (ℕ × Bits) LangFault
-idle_in inputs at before (x ∷ n ∷ []) = idled inputs at before x n
+idle_in inputs at before (x ∷ n ∷ []) = idled inputs before x n
 idle_in inputs at before ts = fails at Form
 
 abbrev pub idle_entry : List Named → List (ℕ × Bits) → Tree → Result (ℕ × Bits) LangFault
@@ -93,10 +95,6 @@ idle_of inputs ts = do
 
 -- ---- the driver
 
--- the operations of a driver: those of the specification, and for now none where it calls none
-abbrev pub driven : List OpHead → List Tree → List OpHead
-driven ops ts = if has_call ts then ops else []
-
 -- the bodies of a driver's calls, which set inputs and see outputs
 abbrev pub bodies : Circuit → List OpHead → List Tree → Result (List Body) LangFault
 bodies c ops ts =
@@ -116,9 +114,9 @@ driver_in c ops ts = do
   bs ← bodies c ops (behind_form (codes "idle") (behind_form (codes "persistent") ts))
   Ok (together c keep idle ops bs)
 
--- the same, whose list is at a place: a call that is missing is a fault of the whole list
-abbrev pub driver_parts : Circuit → Place → List OpHead → List Tree → Result DriverParts LangFault
-driver_parts c at ops ts = if all_called ops ts then driver_in c ops ts else fails at Missing
+-- a call that is missing is a fault of the whole list, which is at a place
+abbrev pub complete : Place → List OpHead → List Tree → Result (Unit {0}) LangFault
+complete at ops ts = if all_called ops ts then Ok tt else fails at Missing
 
 abbrev pub made : Place → DriverParts → Result DriverParts LangFault
 made at p = if driver_fits p then Ok p else fails at Width
@@ -127,11 +125,26 @@ made at p = if driver_fits p then Ok p else fails at Width
 abbrev pub driver_of : Circuit → SpecParts → Tree → List Tree → Result DriverParts LangFault
 driver_of c s t more = do
   ts ← behind_head (codes "driver") t
-  parts ← driver_parts c (place_of t) (driven s.ops ts) ts
+  parts ← driver_in c s.ops ts
   done ← no_more more
+  whole ← complete (place_of t) s.ops ts
   made (place_of t) parts
 
--- the driver of the trees of a text that ends at a place
+-- the driver of the trees of a text that ends at a place. A text without a tree isn't in the form:
+-- what is missing stands at the first parenthesis, of which it has none.
 abbrev pub driver_text : Circuit → SpecParts → Place → List Tree → Result DriverParts LangFault
-driver_text c s end [] = fails end Missing
+driver_text c s end [] = fails end Form
 driver_text c s end (t ∷ ts) = driver_of c s t ts
+
+-- ---- a call that is missing
+
+-- trees are one driver, whose list is at a place, and all of it is read but for the call of some operation
+pub record LacksCall (c : Circuit) (s : SpecParts) (ts : List Tree) (at : Place) : Type 0 where
+  pub tree : Tree
+  pub alone : ts ≡ tree ∷ []
+  pub place : at ≡ place_of tree
+  pub inner : List Tree
+  pub begins : behind_head (codes "driver") tree ≡ Ok inner
+  pub parts : DriverParts
+  pub read : driver_in c s.ops inner ≡ Ok parts
+  pub lacking : all_called s.ops inner ≡ false

@@ -43,15 +43,15 @@ use Rattle.lang_read.specs.Drivers.{widths_of}
 abbrev pub alone : Tree → ℕ → List Named → Result Expr LangFault
 alone t w names = expr_of_width t w names >>= λ x. if nat_le x.cost 1000000 then Ok x.expr else fails (place_of t) Bound
 
-abbrev pub entered : List Named → List Named → Place → List (ℕ × Expr) → Tree → Tree → Result (ℕ × Expr) LangFault
-entered outs names at before x e = do
-  s ← new_entry Output outs at before x
+abbrev pub entered : List Named → List Named → List (ℕ × Expr) → Tree → Tree → Result (ℕ × Expr) LangFault
+entered outs names before x e = do
+  s ← new_entry Output outs before x
   value ← alone e s.width names
   Ok (s.slot.number, value)
 
 -- (x e)
 abbrev pub entry_in : List Named → List Named → Place → List (ℕ × Expr) → List Tree → Result (ℕ × Expr) LangFault
-entry_in outs names at before (x ∷ e ∷ []) = entered outs names at before x e
+entry_in outs names at before (x ∷ e ∷ []) = entered outs names before x e
 entry_in outs names at before parts = fails at Form
 
 abbrev pub outputs_entry : List Named → List Named → List (ℕ × Expr) → Tree → Result (ℕ × Expr) LangFault

@@ -1,14 +1,13 @@
 -- Forms that may stand at the front of a list, and entries of a list: each has the number of what
 -- it names, and gives something to it.
 use Rattle.std.specs.Prelude.{ℕ, suc, ◌==◌, Bool, true, false, if◌then◌else◌, List, [], ◌∷◌, take, drop, Option, Some, None, Result, Ok}
-use Rattle.knox_text.specs.declared.place.Place.{Place}
 use Rattle.knox_sexpr.specs.declared.tree.Tree.{Tree}
 use Rattle.expr_read.specs.declared.faults.LangFault.{LangFault}
 use Rattle.expr_read.specs.declared.faults.LangWhy.TheVariants.{Twice}
 use Rattle.expr_read.specs.declared.names.Group.{Group}
 use Rattle.expr_read.specs.declared.names.Named.{Named}
 use Rattle.expr_read.specs.declared.names.Seen.{Seen}
-use Rattle.expr_read.specs.Views.{◌>>=◌, fails, is_headed, headed_count, behind_head}
+use Rattle.expr_read.specs.Views.{◌>>=◌, fails, place_of, is_headed, headed_count, behind_head}
 use Rattle.expr_read.specs.Names.{seen_of}
 
 -- the lists at the front that begin with some symbol, and what stands behind them
@@ -32,11 +31,11 @@ abbrev pub is_entered : {A : Type 0} → ℕ → List (ℕ × A) → Bool
 is_entered k [] = false
 is_entered k (e ∷ es) = if e.0 == k then true else is_entered k es
 
--- the word that a tree names in an entry at a place, which no entry before names
-abbrev pub new_entry : {A : Type 0} → Group → List Named → Place → List (ℕ × A) → Tree → Result Seen LangFault
-new_entry group names at before t = do
+-- the word that a tree names in an entry, which no entry before names
+abbrev pub new_entry : {A : Type 0} → Group → List Named → List (ℕ × A) → Tree → Result Seen LangFault
+new_entry group names before t = do
   s ← seen_of group t names
-  if is_entered s.slot.number before then fails at Twice else Ok s
+  if is_entered s.slot.number before then fails (place_of t) Twice else Ok s
 
 -- what the first entry gives to a number
 abbrev pub entry_of : {A : Type 0} → ℕ → List (ℕ × A) → Option A

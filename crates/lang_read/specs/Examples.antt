@@ -1,4 +1,4 @@
--- What the computed examples speak of: two operations, and a driver that calls one of them.
+-- What the computed examples speak of: two operations, and drivers that call none and one of them.
 use Rattle.std.specs.Prelude.{ℕ, List, [], ◌∷◌, codes, None}
 use Rattle.knox_text.specs.Examples.{place}
 use Rattle.knox_words.specs.Bits.{bits}
@@ -24,11 +24,20 @@ op name = record { name = name; args = []; result = 1 }
 abbrev pub two_ops : SpecParts
 two_ops = record { fields = []; init = []; funs = []; ops = op (codes "set") ∷ op (codes "check") ∷ []; bodies = [] }
 
--- (driver (call set r)), whose parentheses stand in columns 1, 9, 30 and 31 of the first line
-abbrev pub only_set : Tree → Tree
-only_set r =
+-- (driver)
+abbrev pub bare : Tree
+bare = trees.List (place 1 1) (trees.Atom (place 1 2) (codes "driver") ∷ []) (place 1 8)
+
+-- (driver set)
+abbrev pub no_list : Tree
+no_list = trees.List (place 1 1) (trees.Atom (place 1 2) (codes "driver") ∷ trees.Atom (place 1 9) (codes "set") ∷ []) (place 1 12)
+
+-- (driver (call set (result #b1)))
+abbrev pub only_set : Tree
+only_set =
     trees.List (place 1 1) (trees.Atom (place 1 2) (codes "driver")
-    ∷ trees.List (place 1 9) (trees.Atom (place 1 10) (codes "call") ∷ trees.Atom (place 1 15) (codes "set") ∷ r ∷ []) (place 1 30) ∷ []) (place 1 31)
+    ∷ trees.List (place 1 9) (trees.Atom (place 1 10) (codes "call") ∷ trees.Atom (place 1 15) (codes "set")
+    ∷ trees.List (place 1 19) (trees.Atom (place 1 20) (codes "result") ∷ trees.Number (place 1 27) 1 1 ∷ []) (place 1 30) ∷ []) (place 1 31) ∷ []) (place 1 32)
 
 -- a bit that costs so much
 abbrev pub bit_of_cost : ℕ → Typed

@@ -21,7 +21,7 @@ use Rattle.expr_read.specs.Expressions.{dearer, expr_of, expr_of_width}
 use Rattle.lang_read.specs.declared.statement.Home.{Home}
 use Rattle.lang_read.specs.declared.statement.Home.TheVariants.{Plain, Emulator, Driver}
 use Rattle.lang_read.specs.declared.statement.Keyword.{Keyword}
-use Rattle.lang_read.specs.declared.statement.Keyword.TheVariants.{Assign, If, Query, While, SetInput, Tick, Other}
+use Rattle.lang_read.specs.declared.statement.Keyword.TheVariants.{Assign, If, Query, While, SetInput, Tick, Other, NoSymbol}
 use Rattle.lang_read.specs.declared.statement.Step.{Step}
 use Rattle.lang_read.specs.declared.statement.Steps.{Steps}
 use Rattle.lang_read.specs.declared.statement.Values.{Values}
@@ -222,25 +222,26 @@ keyword_in home name =
 
 abbrev pub keyword_at : Home → Tree-F Tree → Keyword
 keyword_at home (Tree-F.Atom at name) = keyword_in home name
-keyword_at home (Tree-F.Number at width value) = Other
-keyword_at home (Tree-F.List at parts close) = Other
+keyword_at home (Tree-F.Number at width value) = NoSymbol
+keyword_at home (Tree-F.List at parts close) = NoSymbol
 
 abbrev pub keyword_of : Home → Tree → Keyword
 keyword_of home t = keyword_at home (out-Tree t)
 
--- what a keyword gives of the parts behind it
-abbrev pub form : Home → Place → Keyword → List StmtPart → List Named → Result Step LangFault
-form home at Assign parts names = assign at (map tree_in parts) names
-form home at If parts names = branch home at parts names
-form home at Query parts names = query at (map tree_in parts) names (ops_in home)
-form home at While parts names = repeat home at parts names
-form home at SetInput parts names = set_input (inputs_in home) at (map tree_in parts) names
-form home at Tick parts names = tick at (map tree_in parts)
-form home at Other parts names = fails at Form
+-- what a keyword, whose place is the second, gives of the parts behind it
+abbrev pub form : Home → Place → Place → Keyword → List StmtPart → List Named → Result Step LangFault
+form home at head_place Assign parts names = assign at (map tree_in parts) names
+form home at head_place If parts names = branch home at parts names
+form home at head_place Query parts names = query at (map tree_in parts) names (ops_in home)
+form home at head_place While parts names = repeat home at parts names
+form home at head_place SetInput parts names = set_input (inputs_in home) at (map tree_in parts) names
+form home at head_place Tick parts names = tick at (map tree_in parts)
+form home at head_place Other parts names = fails at Form
+form home at head_place NoSymbol parts names = fails head_place Form
 
 abbrev pub begun : Home → Place → List StmtPart → List Named → Result Step LangFault
 begun home at [] names = fails at Form
-begun home at (head ∷ parts) names = form home at (keyword_of home head.tree) parts names
+begun home at (head ∷ parts) names = form home at (place_of head.tree) (keyword_of home head.tree) parts names
 
 abbrev pub stmt_reading : Tree-F StmtPart → Home → List Named → Result Step LangFault
 stmt_reading (Tree-F.Atom at name) home names = fails at Form

@@ -3,7 +3,7 @@ ghost use Rattle.std.specs.Prelude.{◌≡◌, ◌++◌, IfOk, OnOk, map};
 ghost use Rattle.knox_lang.specs.declared.parts.OpHead.{OpHead};
 ghost use Rattle.expr_read.specs.Views.{Gives};
 ghost use Rattle.lang_read.specs.Bodies.{empty_body, cut_last};
-ghost use Rattle.lang_read.specs.Calls.{called, call_named, call_ending, call_in, call, calls_of, bodies_of, begins_call, is_call, is_called, all_called, has_call};
+ghost use Rattle.lang_read.specs.Calls.{called, call_named, call_ending, call_in, call, calls_of, bodies_of, begins_call, is_call, is_called, all_called};
 
 use crate::body::{MOST_DRIVER_COST, empty_body, replying_body};
 use crate::entries::{filled, is_entered};
@@ -17,20 +17,21 @@ use knox_text::Place;
 use sqlite_items::Items;
 use std::alloc::{AllocError, Global};
 
-/// The call of the operation with a head, whose list is at the place: the operation's number, and
-/// the body. It sees these names, which are the same afterwards.
+/// The call of the operation with a head, which a tree names and whose list is at the place: the
+/// operation's number, and the body. It sees these names, which are the same afterwards.
 fn called(
     alloc: Global,
     home: &Home,
     names: &mut Items<Named>,
     at: Place,
     before: &[(u32, Body)],
+    x: &Tree,
     stmts: &[Tree],
     last: &Tree,
     number: usize,
     head: &OpHead,
 ) -> Result<(u32, Body), LangFault>
-    ensures read { Gives result (called home.now names.old at before.now stmts.now last.now number head.now) }
+    ensures read { Gives result (called home.now names.old at before.now x.now stmts.now last.now number head.now) }
     ensures names { OnOk result (names.new ≡ names.old) }
 {
     let number = match u32::try_from(number) {
@@ -38,7 +39,7 @@ fn called(
         Err(_) => return Err(LangFault::from(AllocError)),
     };
     if is_entered(number, before) {
-        return Err(fault(at, LangWhy::Twice));
+        return Err(fault(place_of(x), LangWhy::Twice));
     }
     let outer = names.len();
     declare(alloc, Space::Arg, head.args.as_slice(), names)?;
@@ -64,7 +65,7 @@ fn call_named(
     ensures names { OnOk result (names.new ≡ names.old) }
 {
     let (number, head) = op_of(x, ops)?;
-    called(alloc, home, names, at, before, stmts, last, number, head)
+    called(alloc, home, names, at, before, x, stmts, last, number, head)
 }
 
 /// The call of the operation that a tree names, whose statements and result are the last of its
@@ -211,16 +212,4 @@ pub(crate) fn all_called(ops: &[OpHead], trees: &[Tree]) -> bool
         }
     }
     true
-}
-
-/// Is there any call?
-pub(crate) fn has_call(trees: &[Tree]) -> bool
-    ensures { result ≡ has_call trees.now }
-{
-    for tree in trees {
-        if is_headed(tree, b"call") {
-            return true;
-        }
-    }
-    false
 }

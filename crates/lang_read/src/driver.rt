@@ -3,9 +3,9 @@
 ghost use Rattle.std.specs.Prelude.{◌≡◌, IfOk};
 ghost use Rattle.knox_circuit.specs.Circuit.{cells_of};
 ghost use Rattle.expr_read.specs.Views.{Gives};
-ghost use Rattle.lang_read.specs.Drivers.{is_among, cell_of, new_cell, named_cells, keep_from, persistent, keep_of, idle_word, idled, idle_in, idle_entry, idle_entries, zero_words, idle_of, driven, bodies, widths_of, together, driver_in, driver_parts, made, driver_of, driver_text};
+ghost use Rattle.lang_read.specs.Drivers.{is_among, cell_of, new_cell, named_cells, keep_from, persistent, keep_of, idle_word, idled, idle_in, idle_entry, idle_entries, zero_words, idle_of, bodies, widths_of, together, driver_in, complete, made, driver_of, driver_text};
 
-use crate::calls::{all_called, bodies_of, calls_of, has_call};
+use crate::calls::{all_called, bodies_of, calls_of};
 use crate::entries::{behind_form, filled, form_trees, new_entry};
 use crate::heads::copied_ops;
 use crate::statement::Home;
@@ -117,17 +117,16 @@ fn idle_word(seen: Seen, at: Place, value: u128) -> Result<(u32, Word), LangFaul
     }
 }
 
-/// The idle word of the input that a tree names, in an entry at the place.
+/// The idle word of the input that a tree names in an entry.
 fn idled(
-    at: Place,
     x: &Tree,
     n: &Tree,
     inputs: &[Named],
     before: &[(u32, Word)],
 ) -> Result<(u32, Word), LangFault>
-    ensures { Gives result (idled inputs.now at before.now x.now n.now) }
+    ensures { Gives result (idled inputs.now before.now x.now n.now) }
 {
-    let seen = new_entry(Group::Input, at, x, inputs, before)?;
+    let seen = new_entry(Group::Input, x, inputs, before)?;
     let value = number_of(n)?;
     idle_word(seen, place_of(n), value)
 }
@@ -142,7 +141,7 @@ fn idle_in(
     ensures { Gives result (idle_in inputs.now at before.now parts.now) }
 {
     match parts {
-        [x, n] => idled(at, x, n, inputs, before),
+        [x, n] => idled(x, n, inputs, before),
         _ => Err(fault(at, LangWhy::Form)),
     }
 }
@@ -201,17 +200,6 @@ fn idle_of(alloc: Global, parts: &[Tree], inputs: &[Port]) -> Result<Words, Lang
     Ok(idle)
 }
 
-/// The operations of a driver: those of the specification, and for now none where it calls none.
-fn driven(alloc: Global, ops: &[OpHead], parts: &[Tree]) -> Result<Items<OpHead>, AllocError>
-    ensures { IfOk result (λ heads. heads ≡ driven ops.now parts.now) }
-{
-    if has_call(parts) {
-        copied_ops(alloc, ops)
-    } else {
-        Ok(Items::new(alloc))
-    }
-}
-
 /// The bodies of a driver's calls, in the order of the operations.
 fn bodies(
     alloc: Global,
@@ -237,52 +225,46 @@ fn together(
     c: &Circuit,
     keep: Items<bool>,
     idle: Words,
-    ops: Items<OpHead>,
+    ops: &[OpHead],
     bodies: Items<Body>,
 ) -> Result<DriverParts, AllocError>
-    ensures { IfOk result (λ parts. parts ≡ together c.now keep idle ops bodies) }
+    ensures { IfOk result (λ parts. parts ≡ together c.now keep idle ops.now bodies) }
 {
     Ok(DriverParts {
         idle,
         keep,
         outs: widths_of(alloc, c.outputs_list())?,
         funs: Items::new(alloc),
-        ops,
+        ops: copied_ops(alloc, ops)?,
         bodies,
     })
 }
 
-/// What stands in a driver's list, where the driver has these operations.
+/// What stands in a driver's list, where the specification has these operations.
 fn driver_in(
     alloc: Global,
     c: &Circuit,
-    ops: Items<OpHead>,
+    ops: &[OpHead],
     parts: &[Tree],
 ) -> Result<DriverParts, LangFault>
-    ensures { Gives result (driver_in c.now ops parts.now) }
+    ensures { Gives result (driver_in c.now ops.now parts.now) }
 {
     let keep = keep_of(alloc, parts, c.cells())?;
     let rest = behind_form(parts, b"persistent");
     let idle = idle_of(alloc, rest, c.inputs())?;
-    let bodies = bodies(alloc, c, ops.as_slice(), behind_form(rest, b"idle"))?;
+    let bodies = bodies(alloc, c, ops, behind_form(rest, b"idle"))?;
     let parts = together(alloc, c, keep, idle, ops, bodies)?;
     Ok(parts)
 }
 
-/// What stands in a driver's list at the place: a call that is missing is a fault of the whole list.
-fn driver_parts(
-    alloc: Global,
-    c: &Circuit,
-    at: Place,
-    ops: Items<OpHead>,
-    parts: &[Tree],
-) -> Result<DriverParts, LangFault>
-    ensures { Gives result (driver_parts c.now at ops parts.now) }
+/// Each operation needs a call among the parts of a driver's list, which is at the place.
+fn complete(at: Place, ops: &[OpHead], parts: &[Tree]) -> Result<(), LangFault>
+    ensures { Gives result (complete at ops.now parts.now) }
 {
-    if !all_called(ops.as_slice(), parts) {
+    if !all_called(ops, parts) {
         return Err(fault(at, LangWhy::Missing));
     }
-    driver_in(alloc, c, ops, parts)
+    Ok(())
 }
 
 /// The driver of these parts, whose list is at the place.
@@ -305,16 +287,17 @@ fn driver_of(
 ) -> Result<DriverProgram, LangFault>
     ensures { Gives result (driver_of c.now s.now tree.now more.now) }
 {
-    let parts = behind_head(tree, b"driver")?;
-    let ops = driven(alloc, s.ops(), parts)?;
-    let parts = driver_parts(alloc, c, place_of(tree), ops, parts)?;
+    let inner = behind_head(tree, b"driver")?;
+    let parts = driver_in(alloc, c, s.ops(), inner)?;
     no_more(more)?;
+    complete(place_of(tree), s.ops(), inner)?;
     made(place_of(tree), parts)
 }
 
 /// The driver that the trees of a text mean over a circuit and a specification, where the text
-/// ends at a place. Each operation of the specification has one call; a text without any is, for
-/// now, a driver for wires alone, without operations.
+/// ends at a place. Each operation of the specification has one call. The languages aren't read
+/// whole yet, so a call that is missing is told only where all else is read; a text without a tree
+/// has no parenthesis at which to tell it, and isn't in the form.
 pub fn read_driver(
     alloc: Global,
     trees: &[Tree],
@@ -326,6 +309,6 @@ pub fn read_driver(
 {
     match trees.split_first() {
         Some((tree, more)) => driver_of(alloc, tree, more, c, s),
-        None => Err(fault(end, LangWhy::Missing)),
+        None => Err(fault(end, LangWhy::Form)),
     }
 }

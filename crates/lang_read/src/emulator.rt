@@ -35,19 +35,18 @@ fn alone(alloc: Global, tree: &Tree, width: u8, names: &[Named]) -> Result<Expr,
     Ok(value.expr)
 }
 
-/// The output that an entry at the place names, and its expression.
+/// The output that an entry names, and its expression.
 fn entered(
     alloc: Global,
-    at: Place,
     x: &Tree,
     e: &Tree,
     outs: &[Named],
     names: &[Named],
     before: &[(u32, Expr)],
 ) -> Result<(u32, Expr), LangFault>
-    ensures { Gives result (entered outs.now names.now at before.now x.now e.now) }
+    ensures { Gives result (entered outs.now names.now before.now x.now e.now) }
 {
-    let seen = new_entry(Group::Output, at, x, outs, before)?;
+    let seen = new_entry(Group::Output, x, outs, before)?;
     let expr = alone(alloc, e, seen.width, names)?;
     Ok((seen.slot.number, expr))
 }
@@ -64,7 +63,7 @@ fn entry_in(
     ensures { Gives result (entry_in outs.now names.now at before.now parts.now) }
 {
     match parts {
-        [x, e] => entered(alloc, at, x, e, outs, names, before),
+        [x, e] => entered(alloc, x, e, outs, names, before),
         _ => Err(fault(at, LangWhy::Form)),
     }
 }

@@ -4,9 +4,10 @@ ghost use Rattle.std.specs.Prelude.{◌≡◌, slice_set};
 ghost use Rattle.expr_read.specs.Views.{Gives, Sees};
 ghost use Rattle.lang_read.specs.Entries.{form_trees, behind_form, is_entered, new_entry, filled};
 
-use expr_read::{Group, LangFault, LangWhy, Named, Seen, behind_head, fault, is_headed, seen_of};
+use expr_read::{
+    Group, LangFault, LangWhy, Named, Seen, behind_head, fault, is_headed, place_of, seen_of,
+};
 use knox_sexpr::Tree;
-use knox_text::Place;
 use sqlite_items::Items;
 
 /// What stands in a form of a word that may stand at the front.
@@ -41,19 +42,18 @@ pub(crate) fn is_entered<T>(number: u32, entries: &[(u32, T)]) -> bool
     false
 }
 
-/// The word that a tree names in an entry at the place, which no entry before names.
+/// The word that a tree names in an entry, which no entry before names.
 pub(crate) fn new_entry<T>(
     group: Group,
-    at: Place,
     tree: &Tree,
     names: &[Named],
     before: &[(u32, T)],
 ) -> Result<Seen, LangFault>
-    ensures { Gives result (new_entry group names.now at before.now tree.now) }
+    ensures { Gives result (new_entry group names.now before.now tree.now) }
 {
     let seen = seen_of(group, tree, names)?;
     if is_entered(seen.slot.number, before) {
-        return Err(fault(at, LangWhy::Twice));
+        return Err(fault(place_of(tree), LangWhy::Twice));
     }
     Ok(seen)
 }

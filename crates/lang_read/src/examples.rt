@@ -2,19 +2,23 @@
 ghost use Rattle.std.specs.Prelude.{◌≡◌, ℕ, [], ◌∷◌, Some, None, Ok};
 ghost use Rattle.knox_text.specs.Examples.{place};
 ghost use Rattle.knox_words.specs.Bits.{bits};
-ghost use Rattle.knox_sexpr.specs.declared.tree.Tree.{Tree};
+ghost use Rattle.knox_sexpr.specs.declared.tree.Tree.TheVariants as trees;
 ghost use Rattle.knox_lang.specs.declared.expr.Expr.TheVariants.{Lit};
-ghost use Rattle.expr_read.specs.declared.faults.LangWhy.TheVariants.{Width, Bound, Missing};
+ghost use Rattle.expr_read.specs.declared.faults.LangWhy.TheVariants.{Form, Width, Bound, Missing};
 ghost use Rattle.expr_read.specs.Views.{fails};
 ghost use Rattle.lang_read.specs.Entries.{filled};
 ghost use Rattle.lang_read.specs.Statements.{while_of};
 ghost use Rattle.lang_read.specs.Bodies.{silent, replying};
 ghost use Rattle.lang_read.specs.Drivers.{idle_word, driver_text};
-ghost use Rattle.lang_read.specs.Examples.{no_lines, two_ops, only_set, bit_of_cost, steps_of_cost, input};
+ghost use Rattle.lang_read.specs.Examples.{no_lines, two_ops, bare, no_list, only_set, bit_of_cost, steps_of_cost, input};
 
-/// A driver that lacks a call is refused at its first parenthesis, whatever else stands in it.
+/// A driver that lacks a call is refused at its first parenthesis, but where it has another fault.
 pub fn lacking_calls_as_expected()
-    ensures missing { (r : Tree) → driver_text no_lines two_ops (place 1 32) (only_set r ∷ []) ≡ fails (place 1 1) Missing }
+    ensures none { driver_text no_lines two_ops (place 1 9) (bare ∷ []) ≡ fails (place 1 1) Missing }
+    ensures one { driver_text no_lines two_ops (place 1 33) (only_set ∷ []) ≡ fails (place 1 1) Missing }
+    ensures other { driver_text no_lines two_ops (place 1 13) (no_list ∷ []) ≡ fails (place 1 9) Form }
+    ensures behind { driver_text no_lines two_ops (place 1 12) (bare ∷ trees.List (place 1 10) [] (place 1 11) ∷ []) ≡ fails (place 1 10) Form }
+    ensures empty { driver_text no_lines two_ops (place 1 1) [] ≡ fails (place 1 1) Form }
 {}
 
 /// The test of a loop counts once more than its turns, and bodies have limits.

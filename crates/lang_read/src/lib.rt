@@ -9,6 +9,7 @@ mod emulator;
 mod entries;
 mod examples;
 mod heads;
+mod laws;
 mod spec;
 mod statement;
 
@@ -16,4 +17,5 @@ pub use driver::read_driver;
 pub use emulator::read_emulator;
 pub use examples::{costs_as_expected, entries_as_expected, lacking_calls_as_expected};
 pub use expr_read::{LangFault, LangWhy};
+pub use laws::missing_is_a_call;
 pub use spec::read_spec;

@@ -52,6 +52,8 @@ enum Keyword {
     Tick,
     /// No word that begins a statement here.
     Other,
+    /// No word at all.
+    NoSymbol,
 }
 
 fn in_emulator(home: &Home, keyword: Keyword) -> Keyword
@@ -117,8 +119,8 @@ fn keyword_of(home: &Home, tree: &Tree) -> Keyword
 {
     match tree {
         Tree::Atom(_, name) => keyword_in(home, name.as_slice()),
-        Tree::Number(_, _, _) => Keyword::Other,
-        Tree::List(_, _, _) => Keyword::Other,
+        Tree::Number(_, _, _) => Keyword::NoSymbol,
+        Tree::List(_, _, _) => Keyword::NoSymbol,
     }
 }
 
@@ -167,21 +169,30 @@ fn begun(
 {
     match parts {
         [] => Err(fault(at, LangWhy::Form)),
-        [head, rest @ ..] => form(alloc, home, at, keyword_of(home, head), rest, names),
+        [head, rest @ ..] => form(
+            alloc,
+            home,
+            at,
+            place_of(head),
+            keyword_of(home, head),
+            rest,
+            names,
+        ),
     }
 }
 
-/// What a keyword gives of the parts behind it.
+/// What a keyword, whose place is the second, gives of the parts behind it.
 #[cycle(statements)]
 fn form(
     alloc: Global,
     home: &Home,
     at: Place,
+    head_place: Place,
     keyword: Keyword,
     parts: &[Tree],
     names: &[Named],
 ) -> Result<Step, LangFault>
-    ensures { Gives result (form home.now at keyword (map stmt_part parts.now) names.now) }
+    ensures { Gives result (form home.now at head_place keyword (map stmt_part parts.now) names.now) }
 {
     match keyword {
         Keyword::Assign => assign(alloc, at, parts, names),
@@ -191,6 +202,7 @@ fn form(
         Keyword::SetInput => set_input(alloc, inputs_in(home), at, parts, names),
         Keyword::Tick => tick(at, parts),
         Keyword::Other => Err(fault(at, LangWhy::Form)),
+        Keyword::NoSymbol => Err(fault(head_place, LangWhy::Form)),
     }
 }
 

@@ -61,24 +61,24 @@ statement-begun-requires t c =
 
 pub begun-returns-in-len1-up : goal.begun-returns-in-len1-up
 begun-returns-in-len1-up t c =
-    let given = rw c.keyword_of.ensures at c.form.ensures in
+    let given = rw (c.keyword_of.ensures, c.place_of.ensures) at c.form.ensures in
     subst (λ (read : Result Step LangFault). Gives c.form.result read) (list-is c.args.home.now c.args.at c.args.parts.now c.head-item.result c.args.names.now c.in-len1-up.len_at_least c.head-item.is) given
 
 pub form-returns-in-Assign : goal.form-returns-in-Assign
 form-returns-in-Assign t c =
-    subst (λ (read : Result Step LangFault). Gives c.assign.result read) (assign-is c.args.home.now c.args.at c.args.keyword c.args.parts.now c.args.names.now c.in-Assign.is) c.assign.ensures
+    subst (λ (read : Result Step LangFault). Gives c.assign.result read) (assign-is c.args.home.now c.args.at c.args.head_place c.args.keyword c.args.parts.now c.args.names.now c.in-Assign.is) c.assign.ensures
 
 pub form-returns-in-Query : goal.form-returns-in-Query
 form-returns-in-Query t c =
-    subst (λ (read : Result Step LangFault). Gives c.query.result read) (query-is c.args.home.now c.args.at c.args.keyword c.args.parts.now c.args.names.now c.in-Query.is) (rw c.ops_in.ensures at c.query.ensures)
+    subst (λ (read : Result Step LangFault). Gives c.query.result read) (query-is c.args.home.now c.args.at c.args.head_place c.args.keyword c.args.parts.now c.args.names.now c.in-Query.is) (rw c.ops_in.ensures at c.query.ensures)
 
 pub form-returns-in-SetInput : goal.form-returns-in-SetInput
 form-returns-in-SetInput t c =
-    subst (λ (read : Result Step LangFault). Gives c.set_input.result read) (set_input-is c.args.home.now c.args.at c.args.keyword c.args.parts.now c.args.names.now c.in-SetInput.is) (rw c.inputs_in.ensures at c.set_input.ensures)
+    subst (λ (read : Result Step LangFault). Gives c.set_input.result read) (set_input-is c.args.home.now c.args.at c.args.head_place c.args.keyword c.args.parts.now c.args.names.now c.in-SetInput.is) (rw c.inputs_in.ensures at c.set_input.ensures)
 
 pub form-returns-in-Tick : goal.form-returns-in-Tick
 form-returns-in-Tick t c =
-    subst (λ (read : Result Step LangFault). Gives c.tick.result read) (tick-is c.args.home.now c.args.at c.args.keyword c.args.parts.now c.args.names.now c.in-Tick.is) c.tick.ensures
+    subst (λ (read : Result Step LangFault). Gives c.tick.result read) (tick-is c.args.home.now c.args.at c.args.head_place c.args.keyword c.args.parts.now c.args.names.now c.in-Tick.is) c.tick.ensures
 
 pub branch-returns-in-len3 : goal.branch-returns-in-len3
 branch-returns-in-len3 t c =
