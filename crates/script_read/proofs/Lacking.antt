@@ -13,7 +13,7 @@ use Rattle.expr_read.specs.declared.faults.LangWhy.{LangWhy}
 use Rattle.expr_read.specs.declared.faults.LangWhy.TheVariants.{Form, UnknownName, Twice, Width, Arity, Bound, Missing, Memory}
 use Rattle.expr_read.specs.declared.faults.LangFault.{LangFault}
 use Rattle.expr_read.specs.declared.names.Named.{Named}
-use Rattle.expr_read.specs.Views.{◌>>=◌, fails, place_of, number_of, symbol_of, is_headed, behind_head, each}
+use Rattle.expr_read.specs.Views.{◌>>=◌, fails, place_of, number_of, symbol_of, is_headed, behind_head}
 use Rattle.expr_read.specs.Names.{op_number}
 use Rattle.expr_read.specs.Expressions.{expr_of_width}
 use Rattle.expr_read.proofs.NotMissing.{is_missing, NotMissing, and-then, either, in-each, in-number, in-symbol, in-head}
