@@ -1,6 +1,1 @@
 pub mod TickLemmas
-pub mod DialogueLemmas
-pub mod AskingLemmas
-pub mod PowerLemmas
-pub mod DesignLemmas
-pub mod QuietLemmas

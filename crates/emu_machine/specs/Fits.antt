@@ -6,7 +6,7 @@ use Rattle.knox_words.specs.Bits.{Bits}
 use Rattle.knox_circuit.specs.declared.circuit.Port.{Port}
 use Rattle.knox_circuit.specs.Ports.{inputs_of, outputs_of}
 use Rattle.knox_circuit.specs.Circuit.{Circuit, cells_of}
-use Rattle.knox_circuit.specs.Power.{states_of, noise_widths, noise_cells}
+use Rattle.knox_circuit.specs.Power.{noise_cells}
 use Rattle.cell_fields.specs.Fields.{name_cells}
 use Rattle.knox_lang.specs.declared.parts.OpHead.{OpHead}
 use Rattle.knox_lang.specs.declared.parts.SpecParts.{SpecParts}
@@ -57,10 +57,9 @@ same_heads (a ∷ as') (b ∷ bs) = same_head a b && same_heads as' bs
 abbrev pub fits_circuit : Circuit → DriverParts → Bool
 fits_circuit c d = words_fit (inputs c) d.idle && have_widths d.outs (outputs c) && length d.keep == length (cells_of c.lines)
 
--- the driver has no operations for now, and is for wires alone; the emulator's are those of the
--- specification
+-- the driver's operations and the emulator's are those of the specification
 abbrev pub fits_specification : SpecParts → DriverParts → EmuParts → Bool
-fits_specification s d e = length d.ops == 0 && same_heads e.ops s.ops && length s.funs == 0 && length d.funs == 0 && length e.funs == 0
+fits_specification s d e = same_heads d.ops s.ops && same_heads e.ops s.ops && length s.funs == 0 && length d.funs == 0 && length e.funs == 0
 
 -- an emulator of a circuit some cells of which are kept: it knows the widths of inputs and outputs, has an expression for
 -- each output, and names the noise words of a power-cycle and the cells. It has no copy of the circuit yet
@@ -69,10 +68,6 @@ fits_emulator c keep e =
     have_widths e.ins (inputs c) && have_widths e.outs (outputs c) && length e.outputs == length (outputs c) && not e.copy
     && name_cells e.noise (noise_cells c keep) && name_cells e.cells (cells_of c.lines)
 
--- a circuit whose factory takes no noise words, so that no power-cycle does. Scripts take none yet
-abbrev pub takes_no_noise : Circuit → Bool
-takes_no_noise c = length (noise_widths (states_of c.lines) []) == 0
-
 -- the parts of a device
 unfoldable pub fits_device : Circuit → SpecParts → DriverParts → EmuParts → Bool
-fits_device c s d e = fits_circuit c d && fits_specification s d e && fits_emulator c d.keep e && takes_no_noise c
+fits_device c s d e = fits_circuit c d && fits_specification s d e && fits_emulator c d.keep e

@@ -1,4 +1,3 @@
 pub mod Fits
 pub mod Emulator
 pub mod Dialogue
-pub mod Meaning

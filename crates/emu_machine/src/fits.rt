@@ -106,12 +106,12 @@ fn fits_circuit(c: &Circuit, d: &DriverParts) -> bool
         && d.keep.len() == c.cells().len()
 }
 
-/// Whether the driver has no operations for now, and is for wires alone, the emulator has those of the
-/// specification, and none has functions.
+/// Whether the driver and the emulator have the operations of the specification, and none has
+/// functions.
 fn fits_specification(s: &SpecParts, d: &DriverParts, e: &EmuParts) -> bool
     ensures { result ≡ fits_specification s.now d.now e.now }
 {
-    d.ops.is_empty()
+    same_heads(d.ops.as_slice(), s.ops.as_slice())
         && same_heads(e.ops.as_slice(), s.ops.as_slice())
         && s.funs.is_empty()
         && d.funs.is_empty()
@@ -150,8 +150,5 @@ fn fits_emulator(c: &Circuit, keep: &[bool], e: &EmuParts) -> bool
 pub(crate) fn fits_device(c: &Circuit, s: &SpecParts, d: &DriverParts, e: &EmuParts) -> bool
     ensures { result ≡ fits_device c.now s.now d.now e.now }
 {
-    fits_circuit(c, d)
-        && fits_specification(s, d, e)
-        && fits_emulator(c, d.keep.as_slice(), e)
-        && c.takes_no_noise()
+    fits_circuit(c, d) && fits_specification(s, d, e) && fits_emulator(c, d.keep.as_slice(), e)
 }

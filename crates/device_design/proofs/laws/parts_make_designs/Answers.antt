@@ -1,5 +1,5 @@
-use Rattle.emu_machine.proofs.DesignLemmas.{parts-make-design}
-use Rattle.emu_machine.proofs.laws.parts_make_designs.Goals as goal
+use Rattle.device_design.proofs.DesignLemmas.{parts-make-design}
+use Rattle.device_design.proofs.laws.parts_make_designs.Goals as goal
 
 pub returns : goal.returns
 returns c s d e spec ok fits own = parts-make-design c.args.c.now s d e (λ keep. record {

@@ -1,21 +1,22 @@
 //! Laws of devices, as functions that do nothing.
-ghost use Rattle.std.specs.Prelude.{◌≡◌, List, [], Bool, true, false};
+ghost use Rattle.std.specs.Prelude.{◌≡◌, List, [], true, false, length};
 ghost use Rattle.knox_words.specs.Bits.{Bits};
 ghost use Rattle.knox_words.specs.Lists.{fit};
 ghost use Rattle.knox_theory.specs.Device.{answered};
-ghost use Rattle.knox_theory.specs.Lawful.{FitsAsking, IsWireDesign};
-ghost use Rattle.knox_circuit.specs.Circuit.{Circuit as Lines};
-ghost use Rattle.knox_circuit.specs.Power.{noise_widths, states_of};
+ghost use Rattle.knox_theory.specs.Lawful.{FitsAsking, IsDesign, IsWireDesign};
+ghost use Rattle.knox_circuit.specs.Circuit.{Circuit as Lines, cells_of, input_widths, output_widths};
 ghost use Rattle.knox_lang.specs.declared.parts.SpecParts.{SpecParts};
 ghost use Rattle.knox_lang.specs.declared.parts.DriverParts.{DriverParts};
 ghost use Rattle.knox_lang.specs.declared.parts.EmuParts.{EmuParts};
+ghost use Rattle.knox_lang.specs.Fitting.{fits_driver};
 ghost use Rattle.knox_lang.specs.WellFormed.{spec_fits, emulator_fits, word_widths};
+ghost use Rattle.driver_machine.specs.Lawful.{HasDriver};
 ghost use Rattle.emu_machine.specs.Emulator.{emulator_after_tick, fields_after_tick};
 ghost use Rattle.emu_machine.specs.Dialogue.{tick_dialogue};
 ghost use Rattle.emu_machine.specs.Fits.{same_heads, fits_device};
-ghost use Rattle.emu_machine.specs.Meaning.{device_of, design_of};
+ghost use Rattle.device_design.specs.Meaning.{device_of, design_of};
 
-use crate::device::Device;
+use emu_machine::Device;
 use knox_circuit::Circuit;
 use knox_words::Word;
 
@@ -44,7 +45,7 @@ fn words_have_widths(words: &[Word])
     }
 }
 
-/// Parts that fit each other make a lawful design for wires.
+/// Parts that fit each other make a design that is lawful where its host is never attached.
 pub fn parts_make_designs(c: &Circuit)
     ensures { (s : SpecParts) (d : DriverParts) (e : EmuParts) → spec_fits s ≡ true → emulator_fits e ≡ true → fits_device c.now s d e ≡ true → fit (word_widths d.idle) d.idle ≡ true → IsWireDesign (design_of c.now s d e) }
 {
@@ -55,19 +56,22 @@ pub fn parts_make_designs(c: &Circuit)
     knox_circuit::persistent_words_are_spread(c);
 }
 
-/// The design of a device is lawful for wires.
+/// The driver of a device is one of its circuit, and the device's design has this driver.
+pub fn devices_have_drivers(dev: &Device)
+    ensures driver { fits_driver (input_widths dev.now.circuit.lines) (output_widths dev.now.circuit.lines) (length (cells_of dev.now.circuit.lines)) dev.now.driver ≡ true }
+    ensures design { HasDriver dev.now.circuit.lines dev.now.driver (design_of dev.now.circuit dev.now.spec dev.now.driver dev.now.emulator) }
+{
+    words_have_widths(dev.driver.idle());
+}
+
+/// The design of a device is lawful.
 pub fn devices_are_designs(dev: &Device)
-    ensures { IsWireDesign (design_of dev.now.circuit dev.now.spec dev.now.driver dev.now.emulator) }
+    ensures { IsDesign (design_of dev.now.circuit dev.now.spec dev.now.driver dev.now.emulator) }
 {
     dev.spec.is_well_formed();
     dev.emulator.is_well_formed();
     words_have_widths(dev.driver.idle());
     parts_make_designs(&dev.circuit);
-}
-
-/// The factory of a device takes no noise words, and no power-cycle does, whatever it keeps.
-pub fn devices_take_no_noise(dev: &Device)
-    ensures { (keep : List Bool) → noise_widths (states_of dev.now.circuit.lines) keep ≡ [] }
-{
-    let _circuit = &dev.circuit;
+    devices_have_drivers(dev);
+    driver_machine::drivers_are_lawful(&dev.circuit, &dev.driver);
 }

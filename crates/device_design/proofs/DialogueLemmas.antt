@@ -16,7 +16,7 @@ use Rattle.knox_lang.specs.Eval.{Calls, eval, called}
 use Rattle.knox_lang.specs.Exec.{Answering, Does, in_order, turns, stmt_level, does, does_all}
 use Rattle.emu_machine.specs.Emulator.{Answerer, answering, body_words, emulator_after_tick, fields_after_tick}
 use Rattle.emu_machine.specs.Dialogue.{Talk, talks, talk_turns, talk_level, talk_of, talk_of_all, tick_dialogue}
-use Rattle.emu_machine.specs.Meaning.{device_of}
+use Rattle.device_design.specs.Meaning.{device_of}
 
 -- what is there after a dialogue, and the one who was asked in it
 abbrev pub hear : (A : Type 0) → Answering A → A → Asking → (Words × Words) × A

@@ -1,9 +1,8 @@
 -- The device that a circuit, a specification, a driver and an emulator are, for the two worlds; and its design, for scripts.
 -- The project's own. Everybody must believe `device_of`: it is what the parts of a yes are. Nobody has to believe `design_of` for a yes.
-use Rattle.std.specs.Prelude.{ℕ, List, [], length, slice_get, Option, Some, None, true}
-use Rattle.knox_words.specs.Bits.{Bits}
-use Rattle.knox_theory.specs.Device.{OutOfTurns, Device}
-use Rattle.knox_theory.specs.Design.{Part, Config, Design}
+use Rattle.std.specs.Prelude.{ℕ, List, [], length, slice_get, Option, Some, None}
+use Rattle.knox_theory.specs.Device.{Device}
+use Rattle.knox_theory.specs.Design.{Part, Design}
 use Rattle.knox_circuit.specs.Circuit.{Circuit, cells_of, output_words, state_after_tick, state_widths, input_widths}
 use Rattle.knox_circuit.specs.Power.{factory_state, state_after_power, states_of, noise_widths, persistent_words, persistent_widths, spread_words}
 use Rattle.knox_lang.specs.declared.parts.OpHead.{OpHead}
@@ -12,6 +11,10 @@ use Rattle.knox_lang.specs.declared.parts.DriverParts.{DriverParts}
 use Rattle.knox_lang.specs.declared.parts.EmuParts.{EmuParts}
 use Rattle.knox_lang.specs.Operation.{op_after, op_result, arg_widths}
 use Rattle.knox_lang.specs.WellFormed.{word_widths}
+use Rattle.driver_machine.specs.Drive.{drive}
+use Rattle.driver_machine.specs.Left.{Left, start, ended, reply}
+use Rattle.driver_machine.specs.Moves.{move, move_tests, ticks_left}
+use Rattle.driver_machine.specs.Fits.{fits_config}
 use Rattle.emu_machine.specs.Emulator.{emulator_outputs, emulator_after_power}
 use Rattle.emu_machine.specs.Dialogue.{tick_dialogue}
 
@@ -25,7 +28,7 @@ head_result None = 0
 head_result (Some h) = h.result
 
 -- The device. A power-cycle is one of the device words that have the persistent words in their cells and zeros elsewhere: nothing else is left of them.
--- A driver has no bodies yet: a call of one would run past its bound at once. Worlds without calls don't ask it.
+-- A call of an operation is what the driver's body for it does to the circuit.
 unfoldable pub device_of : Circuit → SpecParts → DriverParts → EmuParts → Device
 device_of c s d e = record {
   noise = noise_widths (states_of c.lines) d.keep;
@@ -39,7 +42,7 @@ device_of c s d e = record {
   power = λ persistent noise. state_after_power c.lines d.keep (spread_words (cells_of c.lines) d.keep persistent) noise;
   outs = λ cells ins. output_words c.lines cells ins;
   tick = λ cells ins. state_after_tick c.lines cells ins;
-  drive = λ o args cells. (OutOfTurns, cells);
+  drive = λ o args cells. drive c.lines d o args cells;
   initial = s.init;
   op = λ o args fields. (op_result s o fields args, op_after s o fields args);
   first_kept = [];
@@ -53,12 +56,8 @@ device_of c s d e = record {
 abbrev pub all_taken : List ℕ → Part
 all_taken ws = record { widths = ws; fill = λ words. words; strip = λ words. words }
 
--- a driver without bodies is at its end from the start on
-abbrev pub at_end : List Bits → List Bits → Config (Unit {0})
-at_end cells inputs = record { left = tt; cells = cells; inputs = inputs; locals = [] }
-
--- the design: the widths of all words, and no moves of the driver
-unfoldable pub design_of : Circuit → SpecParts → DriverParts → EmuParts → Design (Unit {0})
+-- the design: the widths of all words, and the driver as what is left of its body, which moves from tick to tick
+unfoldable pub design_of : Circuit → SpecParts → DriverParts → EmuParts → Design Left
 design_of c s d e = record {
   device = device_of c s d e;
   fields = word_widths s.init;
@@ -68,11 +67,11 @@ design_of c s d e = record {
   emu = word_widths e.init;
   copy = all_taken [];
   kept = [];
-  start = λ o args cells. at_end cells d.idle;
-  move = λ c. c;
-  move_tests = λ c. [];
-  ended = λ c. true;
-  ticks_left = λ c. 0;
-  reply = λ left. OutOfTurns;
-  fits_config = λ o c. true;
+  start = λ o args cells. start d o args cells;
+  move = λ x. move c.lines d x;
+  move_tests = λ x. move_tests c.lines d x;
+  ended = λ x. ended x;
+  ticks_left = λ x. ticks_left x;
+  reply = λ left. reply left;
+  fits_config = λ o x. fits_config c.lines d o x;
 }

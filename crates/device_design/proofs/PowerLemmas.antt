@@ -16,7 +16,7 @@ use Rattle.knox_lang.proofs.StmtLemmas.{stmts-keep}
 use Rattle.knox_lang.proofs.OperationLemmas.{no-answers, start-fit}
 use Rattle.cell_fields.specs.Fields.{same_index, same_field, cell_field, name_cells}
 use Rattle.emu_machine.specs.Emulator.{power_spaces, emulator_after_power}
-use Rattle.emu_machine.proofs.AskingLemmas.{init-fits}
+use Rattle.device_design.proofs.AskingLemmas.{init-fits}
 
 -- the words that the body `power` sees at first
 power-spaces-fit : (e : EmuParts) (noise : Words) → e.copy ≡ false → fit (word_widths e.init) e.init ≡ true → fit (field_widths e.noise) noise ≡ true → are_widths (local_widths e.power) ≡ true → SpacesFit (power_widths e) (power_spaces e noise)

@@ -17,11 +17,11 @@ use Rattle.knox_lang.specs.Operation.{op_after, op_result}
 use Rattle.knox_lang.specs.WellFormed.{word_widths, field_widths, emulator_fits, spec_fits, IsTyped}
 use Rattle.knox_lang.proofs.WidthLemmas.{and_first, and_second}
 use Rattle.knox_lang.proofs.OperationLemmas.{spec-is-typed}
-use Rattle.emu_machine.specs.Fits.{have_widths, words_fit, inputs, outputs, same_heads, fits_circuit, fits_specification, fits_emulator, takes_no_noise, fits_device}
-use Rattle.emu_machine.specs.Meaning.{head_args, head_result, device_of, design_of}
+use Rattle.emu_machine.specs.Fits.{have_widths, words_fit, inputs, outputs, same_heads, fits_circuit, fits_specification, fits_emulator, fits_device}
+use Rattle.device_design.specs.Meaning.{head_args, head_result, device_of, design_of}
 use Rattle.cell_fields.specs.Fields.{name_cells}
-use Rattle.emu_machine.proofs.AskingLemmas.{tick-asks-fit, spec-init}
-use Rattle.emu_machine.proofs.PowerLemmas.{power-fits, names-widths}
+use Rattle.device_design.proofs.AskingLemmas.{tick-asks-fit, spec-init}
+use Rattle.device_design.proofs.PowerLemmas.{power-fits, names-widths}
 
 -- the widths of ports
 
@@ -72,7 +72,7 @@ is-circuit c s d e laws idle = record {
 
 -- the specification
 
-there-is-one : (hs : List OpHead) (k : ℕ) → k < length hs → slice_get hs k ≡ None → ⊥
+pub there-is-one : (hs : List OpHead) (k : ℕ) → k < length hs → slice_get hs k ≡ None → ⊥
 there-is-one [] k lt e = omega arith
 there-is-one (h ∷ hs) zero lt e = cc
 there-is-one (h ∷ hs) (suc k) lt e = there-is-one hs k (omega arith) e
@@ -127,12 +127,13 @@ is-wire-design c s d e laws idle spec ok alone same ins noises = record {
 -- what is known of parts that fit each other
 pub record FitTogether (c : Circuit) (s : SpecParts) (d : DriverParts) (e : EmuParts) : Type 0 where
   pub idle : words_fit (inputs c) d.idle ≡ true
+  pub outs : have_widths d.outs (outputs c) ≡ true
   pub keep : length d.keep ≡ length (cells_of c.lines)
+  pub driven : same_heads d.ops s.ops ≡ true
   pub same : same_heads e.ops s.ops ≡ true
   pub ins : have_widths e.ins (inputs c) ≡ true
   pub alone : e.copy ≡ false
   pub noise : name_cells e.noise (noise_cells c d.keep) ≡ true
-  pub quiet : takes_no_noise c ≡ true
 
 not-true : (b : Bool) → not b ≡ true → b ≡ false
 not-true true h = cc
@@ -141,24 +142,24 @@ not-true false h = refl
 pub fit-together : (c : Circuit) (s : SpecParts) (d : DriverParts) (e : EmuParts) → fits_device c s d e ≡ true → FitTogether c s d e
 unfolding fits_device
 fit-together c s d e h =
-    let three : fits_circuit c d && fits_specification s d e && fits_emulator c d.keep e ≡ true = and_first _ (takes_no_noise c) h in
-    let both : fits_circuit c d && fits_specification s d e ≡ true = and_first _ (fits_emulator c d.keep e) three in
+    let both : fits_circuit c d && fits_specification s d e ≡ true = and_first _ (fits_emulator c d.keep e) h in
     let circuit : fits_circuit c d ≡ true = and_first (fits_circuit c d) (fits_specification s d e) both in
     let spec : fits_specification s d e ≡ true = and_second (fits_circuit c d) (fits_specification s d e) both in
-    let emulator : fits_emulator c d.keep e ≡ true = and_second _ (fits_emulator c d.keep e) three in
+    let emulator : fits_emulator c d.keep e ≡ true = and_second _ (fits_emulator c d.keep e) h in
     let named : _ && name_cells e.noise (noise_cells c d.keep) ≡ true = and_first _ (name_cells e.cells (cells_of c.lines)) emulator in
     let shown : _ && not e.copy ≡ true = and_first _ (name_cells e.noise (noise_cells c d.keep)) named in
     let ports : words_fit (inputs c) d.idle && have_widths d.outs (outputs c) ≡ true = and_first _ (length d.keep == length (cells_of c.lines)) circuit in
-    let heads : _ && same_heads e.ops s.ops ≡ true = and_first _ (length s.funs == 0) (and_first _ (length d.funs == 0) (and_first _ (length e.funs == 0) spec)) in
+    let heads : same_heads d.ops s.ops && same_heads e.ops s.ops ≡ true = and_first _ (length s.funs == 0) (and_first _ (length d.funs == 0) (and_first _ (length e.funs == 0) spec)) in
     let wires : have_widths e.ins (inputs c) && have_widths e.outs (outputs c) ≡ true = and_first _ (length e.outputs == length (outputs c)) (and_first _ (not e.copy) shown) in
     record {
       idle = and_first (words_fit (inputs c) d.idle) (have_widths d.outs (outputs c)) ports;
+      outs = and_second (words_fit (inputs c) d.idle) (have_widths d.outs (outputs c)) ports;
       keep = eqb-true (length d.keep) (length (cells_of c.lines)) (and_second _ (length d.keep == length (cells_of c.lines)) circuit);
-      same = and_second _ (same_heads e.ops s.ops) heads;
+      driven = and_first (same_heads d.ops s.ops) (same_heads e.ops s.ops) heads;
+      same = and_second (same_heads d.ops s.ops) (same_heads e.ops s.ops) heads;
       ins = and_first (have_widths e.ins (inputs c)) (have_widths e.outs (outputs c)) wires;
       alone = not-true e.copy (and_second _ (not e.copy) shown);
       noise = and_second _ (name_cells e.noise (noise_cells c d.keep)) named;
-      quiet = and_second _ (takes_no_noise c) h;
     }
 
 pub parts-make-design : (c : Circuit) (s : SpecParts) (d : DriverParts) (e : EmuParts) → (length d.keep ≡ length (cells_of c.lines) → CircuitLaws c d.keep) →

@@ -1,5 +1,5 @@
-use Rattle.emu_machine.proofs.DialogueLemmas.{dialogue-is-tick, asks-the-tick}
-use Rattle.emu_machine.proofs.laws.dialogue_is_the_tick.Goals as goal
+use Rattle.device_design.proofs.DialogueLemmas.{dialogue-is-tick, asks-the-tick}
+use Rattle.device_design.proofs.laws.dialogue_is_the_tick.Goals as goal
 
 pub returns-clause-dialogue : goal.returns-clause-dialogue
 returns-clause-dialogue c circuit s d p fields emu ins = dialogue-is-tick circuit s d p fields emu ins

@@ -27,8 +27,8 @@ use Rattle.knox_lang.proofs.OperationLemmas.{start-fit, spec-is-typed}
 use Rattle.emu_machine.specs.Emulator.{body_words}
 use Rattle.emu_machine.specs.Dialogue.{tick_dialogue}
 use Rattle.emu_machine.specs.Fits.{same_args, same_heads}
-use Rattle.emu_machine.specs.Meaning.{head_args, head_result, device_of, design_of}
-use Rattle.emu_machine.proofs.DialogueLemmas.{hear, stmts-go-on}
+use Rattle.device_design.specs.Meaning.{head_args, head_result, device_of, design_of}
+use Rattle.device_design.proofs.DialogueLemmas.{hear, stmts-go-on}
 
 -- the same operations have the same widths
 

@@ -1,0 +1,60 @@
+-- The driver of a device is one of its circuit, and has the specification's operations.
+use Rattle.std.proofs.Common.{◌≡◌, ℕ, suc, ◌<◌, ◌==◌, ◌&&◌, List, [], ◌∷◌, true, refl, ap, sym, ◌∙◌, subst, Option, Some, None, length, slice_get, eq-eqb}
+use Rattle.std.specs.Cmp.Lexicographic.{pointwise, bytes_decides}
+use Rattle.knox_words.specs.Lists.{fit}
+use Rattle.knox_theory.proofs.Basics.{and-both}
+use Rattle.knox_circuit.specs.Circuit.{Circuit, cells_of, input_widths, output_widths}
+use Rattle.knox_lang.specs.declared.parts.OpHead.{OpHead}
+use Rattle.knox_lang.specs.declared.parts.SpecParts.{SpecParts}
+use Rattle.knox_lang.specs.declared.parts.DriverParts.{DriverParts}
+use Rattle.knox_lang.specs.declared.parts.EmuParts.{EmuParts}
+use Rattle.knox_lang.specs.Fitting.{fits_driver}
+use Rattle.knox_lang.specs.WellFormed.{word_widths}
+use Rattle.knox_lang.proofs.WidthLemmas.{and_second}
+use Rattle.driver_machine.specs.Lawful.{HasOp, HasDriver}
+use Rattle.emu_machine.specs.Fits.{same_head, same_heads, outputs, fits_device}
+use Rattle.device_design.specs.Meaning.{head_args, device_of, design_of}
+use Rattle.device_design.proofs.AskingLemmas.{heads-at}
+use Rattle.device_design.proofs.DesignLemmas.{have-widths, idle-fits, there-is-one, fit-together}
+
+-- by the widths of the circuit's words
+pub fits-driver : (c : Circuit) (s : SpecParts) (d : DriverParts) (e : EmuParts) → fits_device c s d e ≡ true → fit (word_widths d.idle) d.idle ≡ true →
+    fits_driver (input_widths c.lines) (output_widths c.lines) (length (cells_of c.lines)) d ≡ true
+fits-driver c s d e fits own =
+    let together = fit-together c s d e fits in
+    let outs : pointwise (λ v w. v == w) (output_widths c.lines) d.outs ≡ true = (bytes_decides (output_widths c.lines) d.outs).1 (sym (have-widths d.outs (outputs c) together.outs)) in
+    let keep : length d.keep == length (cells_of c.lines) ≡ true = eq-eqb (length d.keep) (length (cells_of c.lines)) together.keep in
+    and-both (fit (input_widths c.lines) d.idle) (pointwise (λ v w. v == w) (output_widths c.lines) d.outs && length d.keep == length (cells_of c.lines)) (idle-fits c d.idle together.idle own)
+    (and-both (pointwise (λ v w. v == w) (output_widths c.lines) d.outs) (length d.keep == length (cells_of c.lines)) outs keep)
+
+same-length : (as' bs : List OpHead) → same_heads as' bs ≡ true → length as' ≡ length bs
+same-length [] [] h = refl
+same-length [] (b ∷ bs) h = cc
+same-length (a ∷ as') [] h = cc
+same-length (a ∷ as') (b ∷ bs) h = ap (λ n. suc n) (same-length as' bs (and_second (same_head a b) (same_heads as' bs) h))
+
+-- an operation of the specification is one of the driver, with the same widths
+has-op : (s : SpecParts) (d : DriverParts) (k : ℕ) → same_heads d.ops s.ops ≡ true → k < length s.ops → HasOp d k (head_args (slice_get s.ops k))
+has-op s d k same lt = by_head (slice_get d.ops k) refl
+  where
+    by_head : (o : Option OpHead) → slice_get d.ops k ≡ o → HasOp d k (head_args (slice_get s.ops k))
+    by_head None at = absurd (there-is-one d.ops k (subst (λ n. k < n) (sym (same-length d.ops s.ops same)) lt) at)
+    by_head (Some h) at =
+        let r = heads-at d.ops s.ops k h same at in
+        record { head = h; at = at; widths = sym r.args ∙ ap (λ o. head_args o) (sym r.at) }
+
+pub has-driver : (c : Circuit) (s : SpecParts) (d : DriverParts) (e : EmuParts) → fits_device c s d e ≡ true → HasDriver c.lines d (design_of c s d e)
+unfolding design_of device_of
+has-driver c s d e fits = record {
+  ops = λ o lt. has-op s d o (fit-together c s d e fits).driven lt;
+  cells = λ ws f. f.taken;
+  of_cells = λ ws f. record { taken = f; whole = refl };
+  drive = λ o args cells. refl;
+  start = λ o args cells. refl;
+  move = λ x. refl;
+  move_tests = λ x. refl;
+  ended = λ x. refl;
+  ticks_left = λ x. refl;
+  reply = λ left. refl;
+  fits_config = λ o x. refl;
+}

@@ -1,0 +1,5 @@
+pub mod DialogueLemmas
+pub mod AskingLemmas
+pub mod PowerLemmas
+pub mod DesignLemmas
+pub mod DriverLemmas
