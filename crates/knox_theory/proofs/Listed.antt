@@ -50,11 +50,11 @@ insert-each Q g (x ∷ xs) e = by_test (nat_le g.hint x.hint) e (λ p. insert-ea
     by_test true p go = (p.0, p.1)
     by_test false p go = let both : Q g × Each Q xs = go p.1 in (both.0, (p.0, both.1))
 
-each-order : (Q : Segment → Type 0) (xs : List Segment) → Each Q xs → Each Q (in_order xs)
+pub each-order : (Q : Segment → Type 0) (xs : List Segment) → Each Q xs → Each Q (in_order xs)
 each-order Q [] e = tt
 each-order Q (x ∷ xs) e = each-insert Q x (in_order xs) e.0 (each-order Q xs e.1)
 
-order-each : (Q : Segment → Type 0) (xs : List Segment) → Each Q (in_order xs) → Each Q xs
+pub order-each : (Q : Segment → Type 0) (xs : List Segment) → Each Q (in_order xs) → Each Q xs
 order-each Q [] e = tt
 order-each Q (x ∷ xs) e = let both : Q x × Each Q (in_order xs) = insert-each Q x (in_order xs) e in (both.0, order-each Q xs both.1)
 

@@ -76,12 +76,9 @@ kept-more sum one was whole c left more keep others is e f g h =
     let split : total (persistent_widths left keep) ≡ total first + total (persistent_widths more others) = (λ i. total (persistent_widths (is i) keep)) ∙ (total-append first (persistent_widths more (drop 1 keep)) ∙ ap (λ z. total first + total (persistent_widths more z)) (sym e)) in
     omega arith
 
--- the sums of the two segments
-pub three-sum : (x y z f k i a r : ℕ) → f ≡ counted x → k ≡ counted y → i ≡ counted z → a ≡ counted (f + k) → r ≡ counted (a + i) → r ≡ counted ((x + y) + z)
-three-sum x y z f k i a r ef ek ei ea er = omega arith
-
-pub one-tick : (t : ℕ) → counted (1 * counted t + 0) ≡ counted (1 * t + 0)
-one-tick t = omega arith
+-- two sums
+pub sum-two : (x y a b r : ℕ) → a ≡ counted x → b ≡ counted y → r ≡ counted (a + b) → r ≡ counted (x + y)
+sum-two x y a b r ea eb er = omega (arith, ea, eb, er)
 
 -- the words of a width that is tried
 pub words_of_width : (w : ℕ) → w ≤ 20 → (1 * 2 ^ w) % 4294967296 ≡ 2 ^ w

@@ -1,10 +1,13 @@
+pub mod EachKind
+pub mod Ordered
 pub mod Counting
 pub mod Widening
 pub mod Formed
+pub mod Listing
 pub mod Reaching
 pub mod Projections
 pub mod Walking
+pub mod Hosting
 pub mod Rooted
-pub mod Starting
 pub mod Deciding
-pub mod Bits
+pub mod Widest

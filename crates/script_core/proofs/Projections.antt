@@ -11,7 +11,7 @@ use Rattle.emu_machine.specs.declared.device.Device.{Device}
 use Rattle.emu_machine.specs.Dialogue.{tick_dialogue}
 use Rattle.emu_machine.specs.Emulator.{emulator_outputs, emulator_after_tick, fields_after_tick}
 use Rattle.emu_machine.specs.Fits.{fits_device}
-use Rattle.emu_machine.specs.Meaning.{design_of, device_of}
+use Rattle.device_design.specs.Meaning.{design_of, device_of}
 use Rattle.script_core.specs.declared.parts.ScriptParts.{ScriptParts}
 use Rattle.script_core.specs.Hints.{refines, script_of}
 use Rattle.script_core.specs.Reached.{design, script}
@@ -42,7 +42,7 @@ both-ticked v st ins fields cells emu told f x e = λ i. record {
 -- a device has a truth value for each cell
 pub keep-fits : (v : Device) → length v.driver.keep ≡ length (cells_of v.circuit.lines)
 unfolding fits_device
-keep-fits v = eqb-true _ _ (and-right _ _ (and-left _ _ (and-left _ _ (and-left _ _ v.fits))))
+keep-fits v = eqb-true _ _ (and-right _ _ (and-left _ _ (and-left _ _ v.fits)))
 
 -- whether outputs are equal, from the outputs themselves
 pub shown-same : (v : Device) (st : State) (ins shown emulated : Words) (b : Bool) → b ≡ same_words shown emulated → shown ≡ output_words v.circuit.lines st.cells ins → emulated ≡ emulator_outputs v.emulator st.emu ins → b ≡ same_outs (design v) st ins

@@ -7,7 +7,10 @@ use Rattle.knox_theory.specs.Script.{Place, Script}
 use Rattle.knox_theory.specs.Course as course
 use Rattle.knox_theory.specs.Course.{Ticking, Course, Check, Assume, Take, Mark, Tell, Done, run, takes}
 use Rattle.knox_theory.specs.WireSegments.{noted, ticked, same_outs, is_refined, steps}
-use Rattle.script_core.specs.Runs.{Wanting, Misfitting, ToFailure, reach, end_of}
+use Rattle.script_core.specs.declared.run.Left.{Left}
+use Rattle.script_core.specs.declared.run.Left.TheVariants.{On, Ended}
+use Rattle.script_core.specs.Reached.{Takes, TakesThree}
+use Rattle.script_core.specs.Runs.{Reach, Wanting, Misfitting, ToFailure, reach, end_of}
 
 -- what a run comes to is read from how far it comes
 
@@ -56,6 +59,46 @@ pub taking-done : (ws : List ℕ) (cs : Words) (wanted : List ℕ) (taken left :
 taking-done ws cs (w ∷ wanted) taken left t e = absurd (omega (arith, e))
 taking-done ws cs [] taken left t e =
     (subst (λ (z : Words). fit ws z ≡ true) (append-nil taken) (t.fitting [] refl), λ rest. t.reached rest ∙ ap (λ z. reach (rest z) left) (append-nil taken))
+
+-- words of three lists of widths, one after another
+
+abbrev pub Took : List ℕ → Words → Words → Words → Type 0
+Took ws cs taken left = (fit ws taken ≡ true) × ((rest : Words → Course) → reach (takes ws rest) cs ≡ reach (rest taken) left)
+
+abbrev pub DoesNotTake : List ℕ → Words → Reach → Type 0
+DoesNotTake ws cs r = (rest : Words → Course) → reach (takes ws rest) cs ≡ r
+
+abbrev pub TookThree : (ws xs ys : List ℕ) → Words → (first second third : Words) → Words → Type 0
+TookThree ws xs ys words first second third left =
+    (fit ws first ≡ true) × (fit xs second ≡ true) × (fit ys third ≡ true)
+    × ((rest : Words → Words → Words → Course) → reach (takes ws (λ a. takes xs (λ b. takes ys (λ c. rest a b c)))) words ≡ reach (rest first second third) left)
+
+abbrev pub DoesNotTakeThree : (ws xs ys : List ℕ) → Words → Reach → Type 0
+DoesNotTakeThree ws xs ys words r =
+    (rest : Words → Words → Words → Course) → reach (takes ws (λ a. takes xs (λ b. takes ys (λ c. rest a b c)))) words ≡ r
+
+pub three-first : (ws xs ys : List ℕ) (words : Words) (r : Reach) → DoesNotTake ws words r → DoesNotTakeThree ws xs ys words r
+three-first ws xs ys words r t rest = t (λ a. takes xs (λ b. takes ys (λ c. rest a b c)))
+
+pub three-second : (ws xs ys : List ℕ) (words first left : Words) (r : Reach) → Took ws words first left → DoesNotTake xs left r → DoesNotTakeThree ws xs ys words r
+three-second ws xs ys words first left r t u rest = t.1 (λ a. takes xs (λ b. takes ys (λ c. rest a b c))) ∙ u (λ b. takes ys (λ c. rest first b c))
+
+pub three-third : (ws xs ys : List ℕ) (words first left second left' third : Words) → Took ws words first left → Took xs left second left' → (l : Left) → Takes ys left' third l → TakesThree ws xs ys words first second third l
+three-third ws xs ys words first left second left' third t u (On l) s = (
+  t.0,
+  u.0,
+  s.0,
+  λ rest. t.1 (λ a. takes xs (λ b. takes ys (λ c. rest a b c))) ∙ (u.1 (λ b. takes ys (λ c. rest first b c)) ∙ s.1 (λ c. rest first second c)),
+)
+three-third ws xs ys words first left second left' third t u (Ended e) s =
+    λ rest. t.1 (λ a. takes xs (λ b. takes ys (λ c. rest a b c))) ∙ (u.1 (λ b. takes ys (λ c. rest first b c)) ∙ s (λ c. rest first second c))
+
+-- the same of other lists of widths, which are equal
+pub three-of : (ws xs ys ws' xs' ys' : List ℕ) (words first second third : Words) (l : Left) → ws ≡ ws' → xs ≡ xs' → ys ≡ ys' → TakesThree ws xs ys words first second third l → TakesThree ws' xs' ys' words first second third l
+three-of ws xs ys ws' xs' ys' words first second third l w x y t =
+    subst (λ (z : List ℕ). TakesThree z xs' ys' words first second third l) w
+    (subst (λ (z : List ℕ). TakesThree ws z ys' words first second third l) x
+    (subst (λ (z : List ℕ). TakesThree ws xs z words first second third l) y t))
 
 -- two ways to go on behind words that are taken, which reach the same
 

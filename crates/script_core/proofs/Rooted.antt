@@ -1,51 +1,118 @@
--- The courses of the two segments of a script of the first form, by their numbers.
-use Rattle.std.proofs.Common.{◌≡◌, ◌∙◌, ℕ, ◌<◌, ◌==◌, Some, None, Bool, true, false, if◌then◌else◌, refl, ap, sym, eqb-true, arith}
-use Rattle.knox_theory.specs.WireSegments.{cut_course}
+-- The segment with a number, by the root that it begins with: its course, its bits and its hint.
+use Rattle.std.proofs.Common.{◌≡◌, ◌∙◌, ℕ, zero, suc, ◌+◌, ◌<◌, ◌==◌, not, nat_lt, Some, None, List, [], ◌∷◌, ◌++◌, length, slice_get, true, false, if◌then◌else◌, refl, ap, sym, arith}
+use Rattle.knox_theory.specs.Script.{Place}
+use Rattle.knox_theory.specs.Segments.{wire_bits, cut_bits}
+use Rattle.knox_theory.proofs.Basics.{and-left, and-right}
 use Rattle.knox_lang.specs.declared.expr.Expr.{Expr}
 use Rattle.emu_machine.specs.declared.device.Device.{Device}
+use Rattle.script_core.specs.declared.parts.Kind.{Kind}
+use Rattle.script_core.specs.declared.parts.Kind.TheVariants.{Factory, BootHost, Rest, Wait, Call, Wire}
+use Rattle.script_core.specs.declared.parts.Root.{Root}
+use Rattle.script_core.specs.declared.parts.Root.TheVariants.{OfKind, OfCut}
+use Rattle.script_core.specs.declared.parts.Section.{Section}
 use Rattle.script_core.specs.declared.parts.ScriptParts.{ScriptParts}
-use Rattle.script_core.specs.Hints.{items_of, section_items, script_fits, first_cut, segment_items, segment_cut}
-use Rattle.script_core.specs.Reached.{design, script, passes, wire_run, cut_run}
-use Rattle.script_core.specs.Runs.{segments_of, course_at}
-use Rattle.script_core.proofs.Formed.{cut_holds, the_condition, wire-course, cut-course, cut-items, cut-condition}
+use Rattle.script_core.specs.Hints.{items_of, script_of, kinds, script_fits, hint_of_kind, wire_items, first_cut, behind_cut, cut_named, roots_of, roots, root_at}
+use Rattle.script_core.specs.Forms.{is_among, stands_in, are_apart}
+use Rattle.script_core.specs.Reached.{design, script, passes, cut_run, behind_course, root_course, root_bits, root_hint}
+use Rattle.script_core.specs.Runs.{segments_of, course_at, bits_at, hint_at}
+use Rattle.script_core.proofs.EachKind.{call-among}
+use Rattle.script_core.proofs.Formed.{Formed, formed, behind, Side, OnWire, OnHost, side, host-roots}
+use Rattle.script_core.proofs.Listing as listing
+use Rattle.script_core.proofs.Listing.{cut_holds, seg, segs, segments-are, segment-count, segment-hint}
 
--- the course of a segment, and its items, where its root has no condition and where it has one
-pub record IsWire (v : Device) (p : ScriptParts) (g : ℕ) : Type 0 where
-  pub course : course_at (segments_of v.circuit v.spec v.driver v.emulator p) g ≡ wire_run v p
-  pub items : segment_items p g ≡ section_items p.sections
+module _ (v : Device) (p : ScriptParts) (f : Formed (length v.spec.ops) p) where
+  cut-condition : first_cut (wire_items p) ≡ Some f.condition
+  cut-condition = ap first_cut f.items
 
-module _ (v : Device) (p : ScriptParts) (fits : script_fits p ≡ true) where
-  zero-wire : (g : ℕ) → g ≡ 0 → IsWire v p g
-  zero-wire g e = record {
-    course = ap (course_at (segments_of v.circuit v.spec v.driver v.emulator p)) e ∙ wire-course v.circuit v.spec v.driver v.emulator p fits;
-    items = ap (segment_items p) e;
-  }
+  behind-is : behind_cut (wire_items p) ≡ behind (hint_of_kind Wire p.sections)
+  behind-is = ap behind_cut f.items
 
-  pub root-wire : (g : ℕ) → segment_cut p g ≡ None → IsWire v p g
-  root-wire g none = by_test (g == 0) refl where
-    by_test : (b : Bool) → g == 0 ≡ b → IsWire v p g
-    by_test true e = zero-wire g (eqb-true g 0 e)
-    by_test false e =
-        let some : Some (the_condition v.circuit v.spec v.driver v.emulator p fits) ≡ None =
-        sym (cut-condition v.circuit v.spec v.driver v.emulator p fits) ∙ (sym (ap (λ (b : Bool). if b then None else first_cut (section_items p.sections)) e) ∙ none) in
-        cc
+  seg-course : (r : Root) → (seg v.circuit v.spec v.driver v.emulator p f r).course ≡ root_course v p (Some r)
+  seg-course (OfKind Factory) = refl
+  seg-course (OfKind BootHost) = refl
+  seg-course (OfKind Rest) = refl
+  seg-course (OfKind Wait) = refl
+  seg-course (OfKind (Call o)) = refl
+  seg-course (OfKind Wire) = refl
+  seg-course OfCut = sym (ap (behind_course v p) cut-condition ∙ ap (cut_run v p f.condition) behind-is)
 
-  one-cut : (g : ℕ) (e : Expr) → g ≡ 1 → the_condition v.circuit v.spec v.driver v.emulator p fits ≡ e → course_at (segments_of v.circuit v.spec v.driver v.emulator p) g ≡ cut_run v p e (segment_items p g)
-  one-cut g e one same =
-      ap (course_at (segments_of v.circuit v.spec v.driver v.emulator p)) one
-      ∙ (cut-course v.circuit v.spec v.driver v.emulator p fits
-      ∙ ((λ i. cut_course (design v) (script v p) (passes v p) (cut_holds v.spec.funs (same i)) (items_of v.spec.funs (sym (cut-items v.circuit v.spec v.driver v.emulator p fits) i)))
-      ∙ ap (λ (k : ℕ). cut_run v p e (segment_items p k)) (sym one)))
+  wire-meant : (script v p).wire ≡ items_of v.spec.funs (wire_items p)
+  unfolding script_of
+  wire-meant = refl
 
-  pub root-cut : (g : ℕ) (e : Expr) → g < 2 → segment_cut p g ≡ Some e → course_at (segments_of v.circuit v.spec v.driver v.emulator p) g ≡ cut_run v p e (segment_items p g)
-  root-cut g e few some = by_test (g == 0) refl where
-    same-condition : (c : Expr) → first_cut (section_items p.sections) ≡ Some c → first_cut (section_items p.sections) ≡ Some e → c ≡ e
-    same-condition c a b = let x : Some c ≡ Some e = sym a ∙ b in cc x
+  seg-bits : (r : Root) → (seg v.circuit v.spec v.driver v.emulator p f r).choice_bits ≡ root_bits v p (Some r)
+  seg-bits (OfKind Factory) = refl
+  seg-bits (OfKind BootHost) = refl
+  seg-bits (OfKind Rest) = refl
+  seg-bits (OfKind Wait) = refl
+  seg-bits (OfKind (Call o)) = refl
+  seg-bits (OfKind Wire) = ap (wire_bits (design v)) wire-meant
+  seg-bits OfCut = sym (ap (λ is. cut_bits (design v) (items_of v.spec.funs is)) behind-is)
 
-    by_test : (b : Bool) → g == 0 ≡ b → course_at (segments_of v.circuit v.spec v.driver v.emulator p) g ≡ cut_run v p e (segment_items p g)
-    by_test true t =
-        let no : None ≡ Some e = sym (ap (λ (b : Bool). if b then None else first_cut (section_items p.sections)) t) ∙ some in
-        cc
-    by_test false t =
-        let cut : first_cut (section_items p.sections) ≡ Some e = sym (ap (λ (b : Bool). if b then None else first_cut (section_items p.sections)) t) ∙ some in
-        one-cut g e (grind (arith, few, t)) (same-condition _ (cut-condition v.circuit v.spec v.driver v.emulator p fits) cut)
+  -- one root after another
+  courses : (rs : List Root) (g : ℕ) → course_at (segs v.circuit v.spec v.driver v.emulator p f rs) g ≡ root_course v p (slice_get rs g)
+  courses [] g = refl
+  courses (r ∷ rs) zero = seg-course r
+  courses (r ∷ rs) (suc g) = courses rs g
+
+  bits : (rs : List Root) (g : ℕ) → bits_at (segs v.circuit v.spec v.driver v.emulator p f rs) g ≡ root_bits v p (slice_get rs g)
+  bits [] g = refl
+  bits (r ∷ rs) zero = seg-bits r
+  bits (r ∷ rs) (suc g) = bits rs g
+
+-- the kind of a root is among those of the device
+root-among : (ks : List Kind) (ss : List Section) (g : ℕ) (k : Kind) → are_apart ks ss ≡ true → slice_get (roots ss) g ≡ Some (OfKind k) → is_among k ks ≡ true
+root-among ks [] g k apart e = cc
+root-among ks (s ∷ ss) g k apart e = by_side (side s.kind) (λ n at. root-among ks ss n k (and-right (not (stands_in s.kind ss)) _ (and-right (is_among s.kind ks) _ apart)) at)
+  where
+    here : is_among s.kind ks ≡ true
+    here = and-left (is_among s.kind ks) _ apart
+
+    own : (j : Kind) → s.kind ≡ j → Some (OfKind j) ≡ Some (OfKind k) → is_among k ks ≡ true
+    own j is some = let same : j ≡ k = cc some in ap (λ x. is_among x ks) (sym (is ∙ same)) ∙ here
+
+    of_wire : (n : ℕ) → s.kind ≡ Wire → slice_get (OfKind Wire ∷ OfCut ∷ roots ss) n ≡ Some (OfKind k) → ((n : ℕ) → slice_get (roots ss) n ≡ Some (OfKind k) → is_among k ks ≡ true) → is_among k ks ≡ true
+    of_wire zero is at go = own Wire is at
+    of_wire (suc zero) is at go = cc
+    of_wire (suc (suc n)) is at go = go n at
+
+    of_host : (n : ℕ) → slice_get (OfKind s.kind ∷ roots ss) n ≡ Some (OfKind k) → ((n : ℕ) → slice_get (roots ss) n ≡ Some (OfKind k) → is_among k ks ≡ true) → is_among k ks ≡ true
+    of_host zero at go = own s.kind refl at
+    of_host (suc n) at go = go n at
+
+    by_side : Side s.kind → ((n : ℕ) → slice_get (roots ss) n ≡ Some (OfKind k) → is_among k ks ≡ true) → is_among k ks ≡ true
+    by_side (OnWire is) go = of_wire g is (sym (ap (λ j. slice_get (roots_of j ++ roots ss) g) is) ∙ e) go
+    by_side (OnHost no_wire) go = of_host g (sym (ap (λ rs. slice_get rs g) (host-roots s.kind ss no_wire)) ∙ e) go
+
+-- OF A SCRIPT FOR A DEVICE, at every number
+module _ (v : Device) (p : ScriptParts) (fits : script_fits (length v.spec.ops) p ≡ true) where
+  abbrev form : Formed (length v.spec.ops) p
+  form = formed (length v.spec.ops) p fits
+
+  pub root-course : (g : ℕ) → course_at (segments_of v.circuit v.spec v.driver v.emulator p) g ≡ root_course v p (root_at p g)
+  root-course g = ap (λ gs. course_at gs g) (segments-are v.circuit v.spec v.driver v.emulator p form) ∙ courses v p form (roots p.sections) g
+
+  pub root-bits : (g : ℕ) → bits_at (segments_of v.circuit v.spec v.driver v.emulator p) g ≡ root_bits v p (root_at p g)
+  root-bits g = ap (λ gs. bits_at gs g) (segments-are v.circuit v.spec v.driver v.emulator p form) ∙ bits v p form (roots p.sections) g
+
+  pub root-hint : (g : ℕ) → hint_at (segments_of v.circuit v.spec v.driver v.emulator p) g ≡ root_hint p (root_at p g)
+  root-hint g = segment-hint v.circuit v.spec v.driver v.emulator p form g
+
+  pub root-count : length (segments_of v.circuit v.spec v.driver v.emulator p) ≡ length (roots p.sections)
+  root-count = segment-count v.circuit v.spec v.driver v.emulator p form
+
+  pub root-op : (g o : ℕ) → root_at p g ≡ Some (OfKind (Call o)) → o < length v.spec.ops
+  root-op g o at =
+      let among = root-among (kinds (length v.spec.ops)) p.sections g (Call o) form.apart at in
+      let lt : nat_lt o (length v.spec.ops) ≡ true = sym (call-among o (length v.spec.ops)) ∙ among in
+      grind (arith, lt)
+
+  -- a subsume of a hint holds where the condition of its cut does
+  abbrev pub the_condition : Expr
+  the_condition = form.condition
+
+  pub cut-named : (m : ℕ) → cut_named m (wire_items p) ≡ (if m == hint_of_kind Wire p.sections + 1 then Some the_condition else None)
+  cut-named m = ap (cut_named m) form.items
+
+  pub passes-are : (m : ℕ) (q : Place) → passes v p m q ≡ (if m == hint_of_kind Wire p.sections + 1 then cut_holds v.spec.funs the_condition q.state else false)
+  passes-are m q = listing.passes v.circuit v.spec v.driver v.emulator p form m q

@@ -12,15 +12,15 @@ use Rattle.knox_lang.specs.declared.parts.Fun.{Fun}
 use Rattle.knox_lang.specs.WellFormed.{word_widths}
 use Rattle.emu_machine.specs.declared.device.Device.{Device}
 use Rattle.emu_machine.specs.Emulator.{emulator_after_power}
-use Rattle.emu_machine.specs.Meaning.{design_of, device_of}
+use Rattle.device_design.specs.Meaning.{design_of, device_of}
 use Rattle.script_core.specs.declared.parts.Act.{Act}
 use Rattle.script_core.specs.declared.parts.Act.TheVariants as act
 use Rattle.script_core.specs.declared.parts.Item.{Item}
 use Rattle.script_core.specs.declared.parts.ScriptParts.{ScriptParts}
-use Rattle.script_core.specs.Hints.{seen, holds, refines, item_of, items_of, section_items, named_or, cut_named, script_of}
-use Rattle.script_core.specs.Reached.{design, script, passes, here, course_from, ticks_from, wire_run, cut_run}
+use Rattle.script_core.specs.Hints.{seen, holds, refines, item_of, items_of, wire_items, named_or, cut_named, script_of}
+use Rattle.script_core.specs.Reached.{design, script, passes, here, course_from, ticks_from, wire_run, cut_run, powered}
 use Rattle.script_core.specs.Runs.{Reach, ToEnd, ToVacuous, ToFailure, reach}
-use Rattle.script_core.proofs.Reaching.{IsBlind, tick_with, steps-blind}
+use Rattle.script_core.proofs.Reaching.{Took, DoesNotTake, TookThree, DoesNotTakeThree, IsBlind, tick_with, steps-blind}
 
 -- THE CHECK OF A SUBSUME looks at the state alone: at the condition of the cut that it names
 
@@ -43,13 +43,13 @@ passed-named d s funs l (i ∷ is) n g p = by_act i.hint.0 i.act (λ m t. passed
   by_act h (act.Cut c) later = cut-passed l funs (l == h) c _ (cut_named l is) p (later _ _)
   by_act h (act.Subsume m) later = refl
 
-pub passes-named : (v : Device) (p : ScriptParts) (l : ℕ) (q : Place) → passes v p l q ≡ named_holds v.spec.funs (cut_named l (section_items p.sections)) q.state
+pub passes-named : (v : Device) (p : ScriptParts) (l : ℕ) (q : Place) → passes v p l q ≡ named_holds v.spec.funs (cut_named l (wire_items p)) q.state
 unfolding script_of
-passes-named v p l q = passed-named (design v) (script v p) v.spec.funs l (section_items p.sections) (wire_places (design v)) (wire_course (design v) (script v p) never) q
+passes-named v p l q = passed-named (design v) (script v p) v.spec.funs l (wire_items p) (wire_places (design v)) (wire_course (design v) (script v p) never) q
 
 passes-blind : (v : Device) (p : ScriptParts) (l : ℕ) (q r : Place) → q.state ≡ r.state → passes v p l q ≡ passes v p l r
 passes-blind v p l q r e =
-    passes-named v p l q ∙ (ap (named_holds v.spec.funs (cut_named l (section_items p.sections))) e ∙ sym (passes-named v p l r))
+    passes-named v p l q ∙ (ap (named_holds v.spec.funs (cut_named l (wire_items p))) e ∙ sym (passes-named v p l r))
 
 -- so the course of items does too
 
@@ -62,13 +62,6 @@ course-blind v p (i ∷ is) = by_act i.hint.0 i.act (course-blind v p is) where
   by_act h (act.Subsume l) later = record { same = λ q r cs e j. if passes-blind v p l.0 q r e j then ToEnd else ToFailure h }
 
 -- ONE TICK
-
--- words of some widths are taken: from a list of choices, which and what is left
-abbrev pub Took : List ℕ → Words → Words → Words → Type 0
-Took ws cs taken left = (rest : Words → Course) → reach (takes ws rest) cs ≡ reach (rest taken) left
-
-abbrev pub DoesNotTake : List ℕ → Words → Reach → Type 0
-DoesNotTake ws cs r = (rest : Words → Course) → reach (takes ws rest) cs ≡ r
 
 module _ (v : Device) (p : ScriptParts) (h n : ℕ) (items : List Item) (st : State) where
   abbrev from_here : Words → Course
@@ -86,7 +79,7 @@ module _ (v : Device) (p : ScriptParts) (h n : ℕ) (items : List Item) (st : St
 
   taken-then : (ws : List ℕ) (cs ins left : Words) → ws ≡ input_widths v.circuit.lines → Took ws cs ins left → reach (ticks_from v p h (suc n) items st) cs ≡ reach (from_here ins) left
   unfolding design_of device_of
-  taken-then ws cs ins left w taken = (λ i. reach (takes (sym w i) from_here) cs) ∙ taken from_here
+  taken-then ws cs ins left w taken = (λ i. reach (takes (sym w i) from_here) cs) ∙ taken.1 from_here
 
   pub tick-differs : (ws : List ℕ) (cs ins left : Words) → ws ≡ input_widths v.circuit.lines → Took ws cs ins left → same_outs (design v) st ins ≡ false → reach (ticks_from v p h (suc n) items st) cs ≡ ToFailure h
   tick-differs ws cs ins left w taken differ =
@@ -122,60 +115,60 @@ ticks-none v p h n items st cs none = let e : n ≡ 0 = omega arith in ap (λ (k
 pub step-first : (v : Device) (p : ScriptParts) (i : Item) (is : List Item) (st : State) (cs : Words) (n : ℕ) → i.act ≡ act.Step n → reach (course_from v p (i ∷ is) (here st)) cs ≡ reach (ticks_from v p i.hint.0 n is st) cs
 step-first v p i is st cs n e = ap (λ (a : Act). reach (course (design v) (script v p) (passes v p) (item_of v.spec.funs i.hint.0 a (items_of v.spec.funs is)) (here st)) cs) e
 
--- THE ROOT OF `wire`
+-- THE ROOT OF `wire` AND OF `boot-host`
 
 module _ (v : Device) (p : ScriptParts) where
-  -- the state after the power-cycle
-  abbrev pub started_in : Words → Words → State
-  started_in fields kept = record {
+  abbrev widths_of_fields : List ℕ
+  widths_of_fields = word_widths v.spec.init
+
+  abbrev widths_of_kept : List ℕ
+  widths_of_kept = persistent_widths (cells_of v.circuit.lines) v.driver.keep
+
+  abbrev widths_of_noise : List ℕ
+  widths_of_noise = noise_widths (states_of v.circuit.lines) v.driver.keep
+
+  abbrev refined_in : Words → Words → Bool
+  refined_in fields kept = refines v.spec.funs (cells_of v.circuit.lines) v.driver.keep p.refine fields kept
+
+  pub powers-short : (cs : Words) (r : Reach) → DoesNotTakeThree widths_of_fields widths_of_kept widths_of_noise cs r → (rest : Words → Words → Words → Course) → reach (powered v p rest) cs ≡ r
+  powers-short cs r t rest = t (λ a b c. enters (refined_in a b) (rest a b c))
+
+  pub powers-then : (cs fields kept noise left : Words) → TookThree widths_of_fields widths_of_kept widths_of_noise cs fields kept noise left → (b : Bool) → refined_in fields kept ≡ b →
+      (rest : Words → Words → Words → Course) → reach (powered v p rest) cs ≡ (if b then reach (rest fields kept noise) left else ToVacuous)
+  powers-then cs fields kept noise left t b refined rest =
+      t.3 (λ a b c. enters (refined_in a b) (rest a b c)) ∙ ap (λ b. if b then reach (rest fields kept noise) left else ToVacuous) refined
+
+  pub powers-on : (cs fields kept noise left fields' kept' noise' : Words) → TookThree widths_of_fields widths_of_kept widths_of_noise cs fields kept noise left → refined_in fields kept ≡ true →
+      fields' ≡ fields → kept' ≡ kept → noise' ≡ noise → (rest : Words → Words → Words → Course) → reach (powered v p rest) cs ≡ reach (rest fields' kept' noise') left
+  powers-on cs fields kept noise left fields' kept' noise' t refined f k n rest =
+      powers-then cs fields kept noise left t true refined rest ∙ (λ i. reach (rest (sym f i) (sym k i) (sym n i)) left)
+
+  -- `wire` goes on to its items
+  abbrev started_in : Words → Words → Words → State
+  started_in fields kept noise = record {
     fields = fields;
-    cells = state_after_power v.circuit.lines v.driver.keep (spread_words (cells_of v.circuit.lines) v.driver.keep kept) [];
-    emu = emulator_after_power v.emulator [];
+    cells = state_after_power v.circuit.lines v.driver.keep (spread_words (cells_of v.circuit.lines) v.driver.keep kept) noise;
+    emu = emulator_after_power v.emulator noise;
     copy = [];
   }
 
   abbrev wire_from : Words → Words → Words → Course
-  wire_from fields kept noise =
-      takes [] (λ more.
-      enters ((script v p).refine fields kept more)
-      (course (design v) (script v p) (passes v p) (script v p).wire (record { state = attached (design v) fields kept noise more; taken = fields ++ (kept ++ (noise ++ more)) })))
+  wire_from fields kept noise = course_from v p (wire_items p) (record { state = started_in fields kept noise; taken = fields ++ (kept ++ (noise ++ [])) })
 
-  abbrev wire_noise : Words → Words → Course
-  wire_noise fields kept = takes (noise_widths (states_of v.circuit.lines) v.driver.keep) (wire_from fields kept)
-
-  abbrev wire_kept : Words → Course
-  wire_kept fields = takes (persistent_widths (cells_of v.circuit.lines) v.driver.keep) (wire_noise fields)
-
-  pub attach-short : (ws : List ℕ) (cs : Words) (r : Reach) → ws ≡ word_widths v.spec.init → DoesNotTake ws cs r → reach (wire_run v p) cs ≡ r
-  unfolding design_of device_of
-  attach-short ws cs r w taken = (λ i. reach (takes (sym w i) wire_kept) cs) ∙ taken wire_kept
-
-  wire-on : (ws : List ℕ) (cs fields left : Words) → ws ≡ word_widths v.spec.init → Took ws cs fields left → reach (wire_run v p) cs ≡ reach (wire_kept fields) left
-  unfolding design_of device_of
-  wire-on ws cs fields left w taken = (λ i. reach (takes (sym w i) wire_kept) cs) ∙ taken wire_kept
-
-  pub attach-short-2 : (ws ks : List ℕ) (cs fields left : Words) (r : Reach) → ws ≡ word_widths v.spec.init → Took ws cs fields left → ks ≡ persistent_widths (cells_of v.circuit.lines) v.driver.keep → DoesNotTake ks left r → reach (wire_run v p) cs ≡ r
-  attach-short-2 ws ks cs fields left r w taken k not =
-      wire-on ws cs fields left w taken ∙ ((λ i. reach (takes (sym k i) (wire_noise fields)) left) ∙ not (wire_noise fields))
-
-  wire-kept : (ks : List ℕ) (fields left kept more : Words) → ks ≡ persistent_widths (cells_of v.circuit.lines) v.driver.keep → Took ks left kept more → noise_widths (states_of v.circuit.lines) v.driver.keep ≡ [] →
-      reach (wire_kept fields) left ≡ (if refines v.spec.funs (cells_of v.circuit.lines) v.driver.keep p.refine fields kept then reach (course_from v p (section_items p.sections) (record { state = started_in fields kept; taken = fields ++ (kept ++ []) })) more else ToVacuous)
+  pub wire-powers : wire_run v p ≡ powered v p wire_from
   unfolding design_of device_of script_of
-  wire-kept ks fields left kept more k taken quiet =
-      (λ i. reach (takes (sym k i) (wire_noise fields)) left) ∙ (taken (wire_noise fields) ∙ ap (λ ns. reach (takes ns (wire_from fields kept)) more) quiet)
+  wire-powers = refl
 
-  pub attach-vacuous : (ws ks : List ℕ) (cs fields left kept more : Words) → ws ≡ word_widths v.spec.init → Took ws cs fields left → ks ≡ persistent_widths (cells_of v.circuit.lines) v.driver.keep → Took ks left kept more → noise_widths (states_of v.circuit.lines) v.driver.keep ≡ [] →
-      refines v.spec.funs (cells_of v.circuit.lines) v.driver.keep p.refine fields kept ≡ false → reach (wire_run v p) cs ≡ ToVacuous
-  attach-vacuous ws ks cs fields left kept more w taken k taken' quiet refined =
-      wire-on ws cs fields left w taken ∙ (wire-kept ks fields left kept more k taken' quiet
-      ∙ ap (λ b. if b then reach (course_from v p (section_items p.sections) (record { state = started_in fields kept; taken = fields ++ (kept ++ []) })) more else ToVacuous) refined)
+  pub attach-short : (cs : Words) (r : Reach) → ((rest : Words → Words → Words → Course) → reach (powered v p rest) cs ≡ r) → reach (wire_run v p) cs ≡ r
+  attach-short cs r ended = ap (λ t. reach t cs) wire-powers ∙ ended wire_from
 
-  pub attach-on : (ws ks : List ℕ) (cs fields left kept more : Words) → ws ≡ word_widths v.spec.init → Took ws cs fields left → ks ≡ persistent_widths (cells_of v.circuit.lines) v.driver.keep → Took ks left kept more → noise_widths (states_of v.circuit.lines) v.driver.keep ≡ [] →
-      refines v.spec.funs (cells_of v.circuit.lines) v.driver.keep p.refine fields kept ≡ true → (st : State) → st ≡ started_in fields kept → reach (wire_run v p) cs ≡ reach (course_from v p (section_items p.sections) (here st)) more
-  attach-on ws ks cs fields left kept more w taken k taken' quiet refined st e =
-      wire-on ws cs fields left w taken ∙ (wire-kept ks fields left kept more k taken' quiet
-      ∙ (ap (λ b. if b then reach (course_from v p (section_items p.sections) (record { state = started_in fields kept; taken = fields ++ (kept ++ []) })) more else ToVacuous) refined
-      ∙ (course-blind v p (section_items p.sections)).same (record { state = started_in fields kept; taken = fields ++ (kept ++ []) }) (here st) more (sym e)))
+  pub attach-on : (cs fields kept noise cells emu left : Words) → ((rest : Words → Words → Words → Course) → reach (powered v p rest) cs ≡ reach (rest fields kept noise) left) →
+      cells ≡ state_after_power v.circuit.lines v.driver.keep (spread_words (cells_of v.circuit.lines) v.driver.keep kept) noise → emu ≡ emulator_after_power v.emulator noise →
+      reach (wire_run v p) cs ≡ reach (course_from v p (wire_items p) (here (record { fields = fields; cells = cells; emu = emu; copy = [] }))) left
+  attach-on cs fields kept noise cells emu left on c e =
+      ap (λ t. reach t cs) wire-powers ∙ (on wire_from
+      ∙ (course-blind v p (wire_items p)).same (record { state = started_in fields kept noise; taken = fields ++ (kept ++ (noise ++ [])) }) (here (record { fields = fields; cells = cells; emu = emu; copy = [] })) left
+      (λ i. record { fields = fields; cells = sym c i; emu = sym e i; copy = [] }))
 
 -- THE ROOT OF A CUT
 
@@ -187,38 +180,17 @@ module _ (v : Device) (p : ScriptParts) (e : Expr) (items : List Item) where
   cut_from fields cells emu =
       enters (holds v.spec.funs e (seen fields cells emu)) (course_from v p items (record { state = cut_state fields cells emu; taken = fields ++ (cells ++ (emu ++ [])) }))
 
-  abbrev cut_cells : Words → Words → Course
-  cut_cells fields cells = takes (word_widths v.emulator.init) (λ emu. cut_from fields cells emu)
-
-  abbrev cut_fields : Words → Course
-  cut_fields fields = takes (state_widths (cells_of v.circuit.lines)) (λ cells. cut_cells fields cells)
-
-  pub enter-short : (ws : List ℕ) (cs : Words) (r : Reach) → ws ≡ word_widths v.spec.init → DoesNotTake ws cs r → reach (cut_run v p e items) cs ≡ r
+  cut-takes : cut_run v p e items ≡ takes (word_widths v.spec.init) (λ a. takes (state_widths (cells_of v.circuit.lines)) (λ b. takes (word_widths v.emulator.init) (λ c. cut_from a b c)))
   unfolding design_of device_of
-  enter-short ws cs r w taken = (λ i. reach (takes (sym w i) cut_fields) cs) ∙ taken cut_fields
+  cut-takes = refl
 
-  cut-on : (ws : List ℕ) (cs fields left : Words) → ws ≡ word_widths v.spec.init → Took ws cs fields left → reach (cut_run v p e items) cs ≡ reach (cut_fields fields) left
-  unfolding design_of device_of
-  cut-on ws cs fields left w taken = (λ i. reach (takes (sym w i) cut_fields) cs) ∙ taken cut_fields
-
-  pub enter-short-2 : (ws xs : List ℕ) (cs fields left : Words) (r : Reach) → ws ≡ word_widths v.spec.init → Took ws cs fields left → xs ≡ state_widths (cells_of v.circuit.lines) → DoesNotTake xs left r → reach (cut_run v p e items) cs ≡ r
-  enter-short-2 ws xs cs fields left r w taken x not =
-      cut-on ws cs fields left w taken ∙ ((λ i. reach (takes (sym x i) (cut_cells fields)) left) ∙ not (cut_cells fields))
-
-  cut-on-2 : (ws xs : List ℕ) (cs fields left cells left' : Words) → ws ≡ word_widths v.spec.init → Took ws cs fields left → xs ≡ state_widths (cells_of v.circuit.lines) → Took xs left cells left' → reach (cut_run v p e items) cs ≡ reach (cut_cells fields cells) left'
-  cut-on-2 ws xs cs fields left cells left' w taken x taken' =
-      cut-on ws cs fields left w taken ∙ ((λ i. reach (takes (sym x i) (cut_cells fields)) left) ∙ taken' (cut_cells fields))
-
-  pub enter-short-3 : (ws xs es : List ℕ) (cs fields left cells left' : Words) (r : Reach) → ws ≡ word_widths v.spec.init → Took ws cs fields left → xs ≡ state_widths (cells_of v.circuit.lines) → Took xs left cells left' → es ≡ word_widths v.emulator.init → DoesNotTake es left' r → reach (cut_run v p e items) cs ≡ r
-  enter-short-3 ws xs es cs fields left cells left' r w taken x taken' m not =
-      cut-on-2 ws xs cs fields left cells left' w taken x taken' ∙ ((λ i. reach (takes (sym m i) (cut_from fields cells)) left') ∙ not (cut_from fields cells))
+  pub enter-short : (cs : Words) (r : Reach) → DoesNotTakeThree (word_widths v.spec.init) (state_widths (cells_of v.circuit.lines)) (word_widths v.emulator.init) cs r → reach (cut_run v p e items) cs ≡ r
+  enter-short cs r t = ap (λ t. reach t cs) cut-takes ∙ t cut_from
 
   -- what comes where all words are taken
-  pub enter-on : (ws xs es : List ℕ) (cs fields left cells left' emu more : Words) → ws ≡ word_widths v.spec.init → Took ws cs fields left → xs ≡ state_widths (cells_of v.circuit.lines) → Took xs left cells left' → es ≡ word_widths v.emulator.init → Took es left' emu more →
-      (b : Bool) → b ≡ holds v.spec.funs e (seen fields cells emu) → (st : State) → st ≡ cut_state fields cells emu → reach (cut_run v p e items) cs ≡ (if b then reach (course_from v p items (here st)) more else ToVacuous)
-  enter-on ws xs es cs fields left cells left' emu more w taken x taken' m taken'' b is st s =
-      cut-on-2 ws xs cs fields left cells left' w taken x taken'
-      ∙ ((λ i. reach (takes (sym m i) (cut_from fields cells)) left')
-      ∙ (taken'' (cut_from fields cells)
-      ∙ (ap (λ c. if c then reach (course_from v p items (record { state = cut_state fields cells emu; taken = fields ++ (cells ++ (emu ++ [])) })) more else ToVacuous) (sym is)
-      ∙ ap (λ z. if b then z else ToVacuous) ((course-blind v p items).same (record { state = cut_state fields cells emu; taken = fields ++ (cells ++ (emu ++ [])) }) (here st) more (sym s)))))
+  pub enter-on : (cs fields cells emu left : Words) → TookThree (word_widths v.spec.init) (state_widths (cells_of v.circuit.lines)) (word_widths v.emulator.init) cs fields cells emu left →
+      (b : Bool) → b ≡ holds v.spec.funs e (seen fields cells emu) → (st : State) → st ≡ cut_state fields cells emu → reach (cut_run v p e items) cs ≡ (if b then reach (course_from v p items (here st)) left else ToVacuous)
+  enter-on cs fields cells emu left t b is st s =
+      ap (λ t. reach t cs) cut-takes ∙ (t.3 cut_from
+      ∙ (ap (λ c. if c then reach (course_from v p items (record { state = cut_state fields cells emu; taken = fields ++ (cells ++ (emu ++ [])) })) left else ToVacuous) (sym is)
+      ∙ ap (λ z. if b then z else ToVacuous) ((course-blind v p items).same (record { state = cut_state fields cells emu; taken = fields ++ (cells ++ (emu ++ [])) }) (here st) left (sym s))))

@@ -1,4 +1,5 @@
 pub mod Hints
+pub mod Forms
 pub mod Runs
 pub mod Widths
 pub mod Decisions

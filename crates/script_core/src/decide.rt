@@ -1,20 +1,21 @@
 //! Deciding a segment by trying all choices in ascending order, word by word: the first word is the
 //! most significant.
-ghost use Rattle.std.specs.Prelude.{◌≡◌, ◌+◌, ◌^◌, ◌<◌, ◌≤◌, ◌∷◌, ◌++◌, [], Some, IfOk};
+ghost use Rattle.std.specs.Prelude.{◌≡◌, ◌+◌, ◌^◌, ◌≤◌, ◌∷◌, ◌++◌, [], length, Some, IfOk};
 ghost use Rattle.knox_words.specs.Bits.{bits};
 ghost use Rattle.knox_words.specs.Lists.{total};
 ghost use Rattle.knox_theory.specs.Course.{Course, used};
 ghost use Rattle.knox_theory.specs.Searched.{wants};
 ghost use Rattle.knox_lang.specs.WellFormed.{word_widths};
+ghost use Rattle.script_core.specs.Hints.{ops_of};
 ghost use Rattle.script_core.specs.Rooms.{room_for, made_for};
 ghost use Rattle.script_core.specs.Runs.{segments_of, course_at, bits_at, hint_at, counted};
 ghost use Rattle.script_core.specs.Decisions.{Finds, Decides, Checks};
 
+use crate::bits::choice_bits;
 use crate::parts::{Choices, HintNo, SegmentNo};
 use crate::room::Room;
 use crate::run::{Progress, run_over};
 use crate::script::Script;
-use crate::widths::choice_bits;
 use emu_machine::Device;
 use knox_words::{Word, Words};
 use std::alloc::{AllocError, Global};
@@ -55,7 +56,7 @@ fn search(
     left: u32,
     room: &mut Room,
 ) -> Result<Option<HintNo>, AllocError>
-    requires segment { g.0 < 2 }
+    requires of { length dev.now.spec.ops ≡ ops_of sc.now }
     requires room { made_for room.old ≡ room_for dev.now }
     requires left { total (word_widths front.old) + left ≡ bits_at (segments_of dev.now.circuit dev.now.spec dev.now.driver dev.now.emulator sc.now) g.0 }
     requires few { left ≤ 20 }
@@ -91,7 +92,7 @@ fn try_words(
     left: u32,
     room: &mut Room,
 ) -> Result<Option<HintNo>, AllocError>
-    requires segment { g.0 < 2 }
+    requires of { length dev.now.spec.ops ≡ ops_of sc.now }
     requires room { made_for room.old ≡ room_for dev.now }
     requires left { total (word_widths front.old) + left ≡ bits_at (segments_of dev.now.circuit dev.now.spec dev.now.driver dev.now.emulator sc.now) g.0 }
     requires few { left ≤ 20 }
@@ -121,7 +122,7 @@ fn try_word(
     left: u32,
     room: &mut Room,
 ) -> Result<Option<HintNo>, AllocError>
-    requires segment { g.0 < 2 }
+    requires of { length dev.now.spec.ops ≡ ops_of sc.now }
     requires room { made_for room.old ≡ room_for dev.now }
     requires left { total (word_widths front.old) + left ≡ bits_at (segments_of dev.now.circuit dev.now.spec dev.now.driver dev.now.emulator sc.now) g.0 }
     requires few { left ≤ 20 }
@@ -150,7 +151,7 @@ pub fn plain_decide(
     sc: &Script,
     g: SegmentNo,
 ) -> Result<Plain, AllocError>
-    requires segment { g.0 < 2 }
+    requires of { length dev.now.spec.ops ≡ ops_of sc.now }
     requires few { bits_at (segments_of dev.now.circuit dev.now.spec dev.now.driver dev.now.emulator sc.now) g.0 ≤ 20 }
     ensures { IfOk result (λ plain. Decides (course_at (segments_of dev.now.circuit dev.now.spec dev.now.driver dev.now.emulator sc.now) g.0) plain) }
 {
@@ -173,7 +174,7 @@ fn plain_of(found: Option<HintNo>, words: Words) -> Plain
 
 /// Decides a segment where its runs take at most 20 bits, and else answers how many they take.
 pub fn check(alloc: Global, dev: &Device, sc: &Script, g: SegmentNo) -> Result<Checked, AllocError>
-    requires { g.0 < 2 }
+    requires of { length dev.now.spec.ops ≡ ops_of sc.now }
     ensures { IfOk result (λ checked. Checks (course_at (segments_of dev.now.circuit dev.now.spec dev.now.driver dev.now.emulator sc.now) g.0) (hint_at (segments_of dev.now.circuit dev.now.spec dev.now.driver dev.now.emulator sc.now) g.0) (counted (bits_at (segments_of dev.now.circuit dev.now.spec dev.now.driver dev.now.emulator sc.now) g.0)) checked) }
 {
     let bits = choice_bits(dev, sc, g);

@@ -2,21 +2,23 @@
 //! trying all choices. Start at `Script` and `check`.
 #![tactic(auto)]
 
+mod bits;
 mod decide;
 mod evaluate;
+mod form;
+mod host;
 mod laws;
 mod parts;
 mod room;
 mod run;
 mod script;
 mod spread;
-mod start;
 mod widths;
 
+pub use bits::choice_bits;
 pub use decide::{Checked, Plain, check, plain_decide};
+pub use form::fits_script;
 pub use laws::scripts_are_formed;
 pub use parts::{Act, Choices, HintNo, Item, Kind, ScriptParts, Section, SegmentNo};
 pub use run::{ScriptEnd, run_choices};
-pub use script::{Script, fits_script};
-pub use start::starts_refined;
-pub use widths::choice_bits;
+pub use script::Script;

@@ -3,16 +3,15 @@ ghost use Rattle.std.specs.Prelude.{◌≡◌, ℕ, suc, List, [], true, IfOk, O
 ghost use Rattle.knox_words.specs.Lists.{fit};
 ghost use Rattle.knox_theory.specs.WireSegments.{same_outs, ticked, is_refined};
 ghost use Rattle.knox_circuit.specs.Circuit.{cells_of, state_widths, input_widths};
-ghost use Rattle.knox_circuit.specs.Power.{persistent_words, spread_words, state_after_power};
-ghost use Rattle.emu_machine.specs.Emulator.{emulator_after_power};
+ghost use Rattle.knox_circuit.specs.Power.{persistent_words, spread_words, states_of, noise_widths, state_after_power};
 ghost use Rattle.script_core.specs.declared.parts.Item.{Item};
 ghost use Rattle.script_core.specs.declared.parts.ScriptParts.{ScriptParts};
-ghost use Rattle.script_core.specs.Hints.{refines, section_items, holds, seen};
-ghost use Rattle.script_core.specs.Reached.{design, script, passes, here, course_from, ticks_from, wire_run, cut_run, Leads};
+ghost use Rattle.script_core.specs.Hints.{refines, wire_items, holds, seen};
+ghost use Rattle.script_core.specs.Reached.{design, script, passes, here, course_from, ticks_from, wire_run, cut_run, Leads, Powers};
 ghost use Rattle.script_core.specs.Rooms.{room_for, made_for, state_in};
 
 use crate::parts::HintNo;
-use crate::run::{Left, Progress, take_words};
+use crate::run::{Left, Progress, take_three, take_words};
 use crate::script::Script;
 use crate::widths::Widths;
 use crate::{evaluate, spread};
@@ -31,6 +30,9 @@ pub(crate) struct Room {
     pub(crate) device: State,
     pub(crate) emulator: Words,
     pub(crate) inputs: Inputs,
+    pub(crate) noise: Noise,
+    pub(crate) args: Words,
+    pub(crate) arg_widths: Vec<u8>,
     pub(crate) scratch: Scratch,
     pub(crate) outputs: Vec<Word>,
     pub(crate) shown: Words,
@@ -50,6 +52,9 @@ impl Drop for Room {
             device: _device,
             emulator: _emulator,
             inputs: _inputs,
+            noise: _noise,
+            args: _args,
+            arg_widths: _arg_widths,
             scratch: _scratch,
             outputs: _outputs,
             shown: _shown,
@@ -80,6 +85,11 @@ impl Room {
             inputs: Inputs {
                 words: Words::new(alloc),
             },
+            noise: Noise {
+                words: Words::new(alloc),
+            },
+            args: Words::new(alloc),
+            arg_widths: Vec::new(alloc),
             scratch,
             outputs,
             shown: Words::new(alloc),
@@ -118,6 +128,8 @@ impl Room {
     fn is_refined(&mut self, alloc: Global, dev: &Device, sc: &Script) -> Result<bool, AllocError>
         ensures value { IfOk result (λ b. b ≡ refines dev.now.spec.funs (cells_of dev.now.circuit.lines) dev.now.driver.keep sc.now.refine self.old.fields self.old.kept) }
         ensures spread { OnOk result (self.new.spread ≡ spread_words (cells_of dev.now.circuit.lines) dev.now.driver.keep self.old.kept) }
+        ensures kept { self.new.kept ≡ self.old.kept }
+        ensures noise { self.new.noise.words ≡ self.old.noise.words }
         ensures state { state_in self.new ≡ state_in self.old }
         ensures made { made_for self.new ≡ made_for self.old }
     {
@@ -140,8 +152,60 @@ impl Room {
         )
     }
 
-    /// The root of `wire`: takes fields and persistent words, goes on where `refine` is 1 of them,
-    /// cycles the power and starts a fresh emulator.
+    /// The root of `wire` and of `boot-host`: takes fields, persistent and noise words, goes on where
+    /// `refine` is 1 of the first two, and cycles the power of the device.
+    pub(crate) fn power_up<'a>(
+        &mut self,
+        alloc: Global,
+        dev: &Device,
+        sc: &Script,
+        words: &'a [Word],
+    ) -> Result<Left<'a>, AllocError>
+        requires { made_for self.old ≡ room_for dev.now }
+        ensures run { IfOk result (λ l. Powers dev.now sc.now words.now self.new.fields self.new.kept self.new.noise.words self.new.device.words l) }
+        ensures made { made_for self.new ≡ made_for self.old }
+    {
+        knox_circuit::persistent_words_are_spread(&dev.circuit);
+        let left = match take_three(
+            self.widths.fields.as_slice(),
+            self.widths.persistent.as_slice(),
+            self.widths.noise.as_slice(),
+            words,
+            &mut self.fields,
+            &mut self.kept,
+            &mut self.noise.words,
+        )? {
+            Left::Ended(end) => return Ok(Left::Ended(end)),
+            Left::On(left) => left,
+        };
+        if !self.is_refined(alloc, dev, sc)? {
+            return Ok(Left::Ended(Progress::Vacuous));
+        }
+        self.cycle_power(dev)?;
+        Ok(Left::On(left))
+    }
+
+    /// Cycles the power of the device whose words are in `spread`, with the noise words of this room.
+    fn cycle_power(&mut self, dev: &Device) -> Result<(), AllocError>
+        requires cells { fit (state_widths (cells_of dev.now.circuit.lines)) self.old.spread ≡ true }
+        requires noise { fit (noise_widths (states_of dev.now.circuit.lines) dev.now.driver.keep) self.old.noise.words ≡ true }
+        ensures cells { OnOk result (self.new.device.words ≡ state_after_power dev.now.circuit.lines dev.now.driver.keep self.old.spread self.old.noise.words) }
+        ensures fit { OnOk result (fit (state_widths (cells_of dev.now.circuit.lines)) self.new.device.words ≡ true) }
+        ensures fields { self.new.fields ≡ self.old.fields }
+        ensures kept { self.new.kept ≡ self.old.kept }
+        ensures noise { self.new.noise.words ≡ self.old.noise.words }
+        ensures made { made_for self.new ≡ made_for self.old }
+    {
+        knox_circuit::circuits_have_widths(&dev.circuit);
+        knox_circuit::circuits_keep_widths(&dev.circuit);
+        mem::swap(&mut self.device.words, &mut self.spread);
+        self.device = dev
+            .circuit
+            .power(dev.driver.keep(), &self.device, &self.noise)?;
+        Ok(())
+    }
+
+    /// The root of `wire`: a power-cycle, and a fresh emulator.
     pub(crate) fn attach<'a>(
         &mut self,
         alloc: Global,
@@ -150,50 +214,20 @@ impl Room {
         words: &'a [Word],
     ) -> Result<Left<'a>, AllocError>
         requires { made_for self.old ≡ room_for dev.now }
-        ensures run { IfOk result (λ l. Leads dev.now (wire_run dev.now sc.now) words.now (state_in self.new) (λ st. course_from dev.now sc.now (section_items sc.now.sections) (here st)) l) }
+        ensures run { IfOk result (λ l. Leads dev.now (wire_run dev.now sc.now) words.now (state_in self.new) (λ st. course_from dev.now sc.now (wire_items sc.now) (here st)) l) }
         ensures made { made_for self.new ≡ made_for self.old }
     {
-        emu_machine::devices_take_no_noise(dev);
-        knox_circuit::persistent_words_are_spread(&dev.circuit);
-        let left = match take_words(self.widths.fields.as_slice(), words, &mut self.fields)? {
+        let left = match self.power_up(alloc, dev, sc, words)? {
             Left::Ended(end) => return Ok(Left::Ended(end)),
             Left::On(left) => left,
         };
-        let left = match take_words(self.widths.persistent.as_slice(), left, &mut self.kept)? {
-            Left::Ended(end) => return Ok(Left::Ended(end)),
-            Left::On(left) => left,
-        };
-        if !self.is_refined(alloc, dev, sc)? {
-            return Ok(Left::Ended(Progress::Vacuous));
-        }
-        self.cycle_power(alloc, dev)?;
-        Ok(Left::On(left))
-    }
-
-    /// Cycles the power of the device whose words are in `spread`, and starts a fresh emulator.
-    fn cycle_power(&mut self, alloc: Global, dev: &Device) -> Result<(), AllocError>
-        requires { fit (state_widths (cells_of dev.now.circuit.lines)) self.old.spread ≡ true }
-        ensures cells { OnOk result (self.new.device.words ≡ state_after_power dev.now.circuit.lines dev.now.driver.keep self.old.spread []) }
-        ensures fit { OnOk result (fit (state_widths (cells_of dev.now.circuit.lines)) self.new.device.words ≡ true) }
-        ensures emu { OnOk result (self.new.emulator ≡ emulator_after_power dev.now.emulator []) }
-        ensures fields { self.new.fields ≡ self.old.fields }
-        ensures made { made_for self.new ≡ made_for self.old }
-    {
-        emu_machine::devices_take_no_noise(dev);
-        knox_circuit::circuits_have_widths(&dev.circuit);
-        knox_circuit::circuits_keep_widths(&dev.circuit);
-        let noise = Noise {
-            words: Words::new(alloc),
-        };
-        mem::swap(&mut self.device.words, &mut self.spread);
-        self.device = dev.circuit.power(dev.driver.keep(), &self.device, &noise)?;
         self.emulation.power(
             alloc,
             &dev.emulator,
-            noise.words.as_slice(),
+            self.noise.words.as_slice(),
             &mut self.emulator,
         )?;
-        Ok(())
+        Ok(Left::On(left))
     }
 
     /// The root of a cut: takes fields, device words and the emulator's words, and goes on where
@@ -209,15 +243,15 @@ impl Room {
         ensures run { IfOk result (λ l. (p : ScriptParts) (items : List Item) → Leads dev.now (cut_run dev.now p condition.now items) words.now (state_in self.new) (λ st. course_from dev.now p items (here st)) l) }
         ensures made { made_for self.new ≡ made_for self.old }
     {
-        let left = match take_words(self.widths.fields.as_slice(), words, &mut self.fields)? {
-            Left::Ended(end) => return Ok(Left::Ended(end)),
-            Left::On(left) => left,
-        };
-        let left = match take_words(self.widths.cells.as_slice(), left, &mut self.device.words)? {
-            Left::Ended(end) => return Ok(Left::Ended(end)),
-            Left::On(left) => left,
-        };
-        let left = match take_words(self.widths.emu.as_slice(), left, &mut self.emulator)? {
+        let left = match take_three(
+            self.widths.fields.as_slice(),
+            self.widths.cells.as_slice(),
+            self.widths.emu.as_slice(),
+            words,
+            &mut self.fields,
+            &mut self.device.words,
+            &mut self.emulator,
+        )? {
             Left::Ended(end) => return Ok(Left::Ended(end)),
             Left::On(left) => left,
         };
@@ -259,7 +293,7 @@ impl Room {
     }
 
     /// Whether `refine` is 1 of the present state.
-    fn stays_refined(
+    pub(crate) fn stays_refined(
         &mut self,
         alloc: Global,
         dev: &Device,
@@ -314,7 +348,7 @@ impl Room {
     {
         knox_circuit::circuits_have_widths(&dev.circuit);
         knox_circuit::circuits_keep_widths(&dev.circuit);
-        emu_machine::dialogue_is_the_tick();
+        device_design::dialogue_is_the_tick();
         dev.circuit
             .tick(&mut self.device, &self.inputs, &mut self.scratch);
         self.emulation.tick(

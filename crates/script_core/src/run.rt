@@ -1,15 +1,16 @@
 //! Runs of a segment over words.
-ghost use Rattle.std.specs.Prelude.{◌≡◌, ◌<◌, List, true, IfOk, if◌then◌else◌};
+ghost use Rattle.std.specs.Prelude.{◌≡◌, ◌<◌, ℕ, List, length, true, IfOk, if◌then◌else◌};
 ghost use Rattle.knox_words.specs.Lists.{fit};
 ghost use Rattle.knox_theory.specs.Course.{run};
 ghost use Rattle.knox_circuit.specs.Circuit.{cells_of, state_widths};
 ghost use Rattle.script_core.specs.declared.parts.Item.{Item};
-ghost use Rattle.script_core.specs.Hints.{segment_items};
-ghost use Rattle.script_core.specs.Reached.{course_from, ticks_from, here, Takes, Leads};
+ghost use Rattle.script_core.specs.declared.parts.Kind.TheVariants.{Call};
+ghost use Rattle.script_core.specs.Hints.{ops_of, wire_items, first_cut};
+ghost use Rattle.script_core.specs.Reached.{course_from, ticks_from, here, wire_run, behind_course, kind_course, Takes, TakesThree, Leads};
 ghost use Rattle.script_core.specs.Rooms.{room_for, made_for, state_in};
 ghost use Rattle.script_core.specs.Runs.{ToEnd, ToFailure, reach, reach_of, end_of, end_said, course_at, segments_of};
 
-use crate::parts::{Act, Choices, HintNo, Item, SegmentNo};
+use crate::parts::{Act, Choices, HintNo, Item, Kind, Root, SegmentNo};
 use crate::room::Room;
 use crate::script::Script;
 use emu_machine::Device;
@@ -73,30 +74,31 @@ pub(crate) fn take_words<'a>(
     Ok(Left::On(left))
 }
 
-/// The root of a segment: takes its words, and goes on where its condition is 1 of them.
-fn enter_segment<'a>(
-    alloc: Global,
-    dev: &Device,
-    sc: &Script,
-    g: SegmentNo,
+/// Takes words of three lists of widths, one after another.
+pub(crate) fn take_three<'a>(
+    first: &[u8],
+    second: &[u8],
+    third: &[u8],
     words: &'a [Word],
-    room: &mut Room,
+    into_first: &mut Words,
+    into_second: &mut Words,
+    into_third: &mut Words,
 ) -> Result<Left<'a>, AllocError>
-    requires room { made_for room.old ≡ room_for dev.now }
-    requires segment { g.0 < 2 }
-    ensures run { IfOk result (λ l. Leads dev.now (course_at (segments_of dev.now.circuit dev.now.spec dev.now.driver dev.now.emulator sc.now) g.0) words.now (state_in room.new) (λ st. course_from dev.now sc.now (segment_items sc.now g.0) (here st)) l) }
-    ensures room { made_for room.new ≡ made_for room.old }
+    ensures { IfOk result (λ l. TakesThree first.now second.now third.now words.now into_first.new into_second.new into_third.new l) }
 {
-    let _parts = sc.parts();
-    let Some(cut) = sc.cut_of(g) else {
-        let root = room.attach(alloc, dev, sc, words)?;
-        return Ok(root);
+    let left = match take_words(first, words, into_first)? {
+        Left::Ended(end) => return Ok(Left::Ended(end)),
+        Left::On(left) => left,
     };
-    let root = room.enter(alloc, dev, cut, words)?;
-    Ok(root)
+    let left = match take_words(second, left, into_second)? {
+        Left::Ended(end) => return Ok(Left::Ended(end)),
+        Left::On(left) => left,
+    };
+    let taken = take_words(third, left, into_third)?;
+    Ok(taken)
 }
 
-/// The run of a segment over words: from its root through its items.
+/// The run of a segment over words.
 pub(crate) fn run_over(
     alloc: Global,
     dev: &Device,
@@ -106,15 +108,82 @@ pub(crate) fn run_over(
     room: &mut Room,
 ) -> Result<Progress, AllocError>
     requires room { made_for room.old ≡ room_for dev.now }
-    requires segment { g.0 < 2 }
+    requires of { length dev.now.spec.ops ≡ ops_of sc.now }
     ensures run { IfOk result (λ p. reach_of p ≡ reach (course_at (segments_of dev.now.circuit dev.now.spec dev.now.driver dev.now.emulator sc.now) g.0) words.now) }
     ensures room { made_for room.new ≡ made_for room.old }
 {
-    let left = match enter_segment(alloc, dev, sc, g, words, room)? {
+    let _parts = sc.parts();
+    match sc.root_of(g) {
+        None => Ok(Progress::Held),
+        Some(Root::OfCut) => run_cut(alloc, dev, sc, words, room),
+        Some(Root::OfKind(kind)) => run_kind(alloc, dev, sc, kind, words, room),
+    }
+}
+
+/// The run of the segment that begins with a section of this kind.
+fn run_kind(
+    alloc: Global,
+    dev: &Device,
+    sc: &Script,
+    kind: Kind,
+    words: &[Word],
+    room: &mut Room,
+) -> Result<Progress, AllocError>
+    requires room { made_for room.old ≡ room_for dev.now }
+    requires op { (o : ℕ) → kind ≡ Call o → o < length dev.now.spec.ops }
+    ensures run { IfOk result (λ p. reach_of p ≡ reach (kind_course dev.now sc.now kind) words.now) }
+    ensures room { made_for room.new ≡ made_for room.old }
+{
+    match kind {
+        Kind::Factory => room.factory(alloc, dev, sc, words),
+        Kind::BootHost => room.boot_host(alloc, dev, sc, words),
+        Kind::Rest => room.rest(alloc, dev, sc, words),
+        Kind::Wait => room.wait(alloc, dev, sc, words),
+        Kind::Call(op) => room.call(alloc, dev, sc, op, words),
+        Kind::Wire => run_wire(alloc, dev, sc, words, room),
+    }
+}
+
+/// The run of the segment of `wire`, from its root through its items.
+fn run_wire(
+    alloc: Global,
+    dev: &Device,
+    sc: &Script,
+    words: &[Word],
+    room: &mut Room,
+) -> Result<Progress, AllocError>
+    requires { made_for room.old ≡ room_for dev.now }
+    ensures run { IfOk result (λ p. reach_of p ≡ reach (wire_run dev.now sc.now) words.now) }
+    ensures room { made_for room.new ≡ made_for room.old }
+{
+    let left = match room.attach(alloc, dev, sc, words)? {
         Left::Ended(end) => return Ok(end),
         Left::On(left) => left,
     };
-    let end = run_items(alloc, dev, sc, sc.items_of(g), left, room)?;
+    let end = run_items(alloc, dev, sc, sc.wire(), left, room)?;
+    Ok(end)
+}
+
+/// The run of the segment behind the cut, from its root through its items.
+fn run_cut(
+    alloc: Global,
+    dev: &Device,
+    sc: &Script,
+    words: &[Word],
+    room: &mut Room,
+) -> Result<Progress, AllocError>
+    requires { made_for room.old ≡ room_for dev.now }
+    ensures run { IfOk result (λ p. reach_of p ≡ reach (behind_course dev.now sc.now (first_cut (wire_items sc.now))) words.now) }
+    ensures room { made_for room.new ≡ made_for room.old }
+{
+    let Some(condition) = sc.cut() else {
+        return Ok(Progress::Held);
+    };
+    let left = match room.enter(alloc, dev, condition, words)? {
+        Left::Ended(end) => return Ok(end),
+        Left::On(left) => left,
+    };
+    let end = run_items(alloc, dev, sc, sc.behind_cut(), left, room)?;
     Ok(end)
 }
 
@@ -155,7 +224,7 @@ fn run_items(
 }
 
 /// The end of a segment at its last check.
-fn checked(holds: bool, hint: HintNo) -> Progress
+pub(crate) fn checked(holds: bool, hint: HintNo) -> Progress
     ensures { reach_of result ≡ (if holds then ToEnd else ToFailure hint.0) }
 {
     if holds {
@@ -212,7 +281,7 @@ pub fn run_choices(
     g: SegmentNo,
     ch: &Choices,
 ) -> Result<ScriptEnd, AllocError>
-    requires { g.0 < 2 }
+    requires of { length dev.now.spec.ops ≡ ops_of sc.now }
     ensures { IfOk result (λ e. end_said e ≡ run (course_at (segments_of dev.now.circuit dev.now.spec dev.now.driver dev.now.emulator sc.now) g.0) ch.now.words) }
 {
     let mut room = Room::new(alloc, dev)?;

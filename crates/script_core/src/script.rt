@@ -5,16 +5,19 @@ ghost use Rattle.knox_lang.specs.declared.parts.SpecParts.{SpecParts};
 ghost use Rattle.knox_lang.specs.declared.parts.DriverParts.{DriverParts};
 ghost use Rattle.knox_lang.specs.declared.parts.EmuParts.{EmuParts};
 ghost use Rattle.knox_theory.specs.Closed.{all_hints, segment_of};
-ghost use Rattle.script_core.specs.Hints.{script_fits, is_loop, is_cut, is_tick, leads_to, behind_cut, first_cut, cut_named, section_items, segment_items, segment_cut, hint_count, obligations_of, item_obligations};
+ghost use Rattle.script_core.specs.Hints.{script_fits, ops_of, behind_cut, first_cut, cut_named, wire_items, hint_of_kind, hint_count, obligations_of, item_obligations, section_obligations, obligations, roots, root_at};
+ghost use Rattle.script_core.specs.Forms.{first_hint, last_item_hint, last_hint, segment_number};
 ghost use Rattle.script_core.specs.Runs.{segments_of, hint_at, counted};
 
-use crate::parts::{Act, HintNo, Item, ScriptParts, SegmentNo};
+use crate::form;
+use crate::parts::{Act, HintNo, Item, Kind, Root, ScriptParts, Section, SegmentNo};
+use emu_machine::Device;
 use knox_lang::Expr;
 use std::marker::Model;
 
-/// A script of the first form: the section `wire` alone, whose items are a cut, a step of one tick
-/// and a subsume of that cut. Its segments are that of `wire`, which the cut ends, and that of the
-/// cut.
+/// A script with a section of each kind, in any order. `wire` has a cut, a step of one tick and a
+/// subsume of that cut. Its segments are that of `wire`, which the cut ends, that of the cut, and
+/// one of each other section.
 pub struct Script {
     parts: ScriptParts,
 }
@@ -29,7 +32,7 @@ impl Drop for Script {
 impl Model for Script {
     ghost use Rattle.std.specs.Prelude.{◌≡◌, true};
     ghost use Rattle.script_core.specs.declared.parts.ScriptParts.{ScriptParts};
-    ghost use Rattle.script_core.specs.Hints.{script_fits};
+    ghost use Rattle.script_core.specs.Hints.{script_fits, ops_of};
     ghost use Rattle.knox_lang.specs.contracts.expr.Expr as e;
     ghost use Rattle.std.specs.Coded.{codes};
 
@@ -39,62 +42,7 @@ impl Model for Script {
 
     ghost view = { λ s. s.parts };
 
-    ghost invariant = { λ s. script_fits s.parts ≡ true };
-}
-
-/// Whether the parts are those of a script of the first form, with hint numbers in order.
-pub fn fits_script(parts: &ScriptParts) -> bool
-    ensures { result ≡ script_fits parts.now }
-{
-    match parts.sections.as_slice() {
-        [section] => section.hint == HintNo(1) && is_loop(section.items.as_slice()),
-        _ => false,
-    }
-}
-
-/// Whether the items are a cut, a step of one tick and a subsume of that cut.
-fn is_loop(items: &[Item]) -> bool
-    ensures { result ≡ is_loop items.now }
-{
-    match items {
-        [cut, step, subsume] => {
-            cut.hint == HintNo(2)
-                && step.hint == HintNo(3)
-                && subsume.hint == HintNo(4)
-                && is_cut(&cut.act)
-                && is_tick(&step.act)
-                && leads_to(&subsume.act, HintNo(2))
-        }
-        _ => false,
-    }
-}
-
-fn is_cut(act: &Act) -> bool
-    ensures { result ≡ is_cut act.now }
-{
-    match act {
-        Act::Cut(_) => true,
-        _ => false,
-    }
-}
-
-fn is_tick(act: &Act) -> bool
-    ensures { result ≡ is_tick act.now }
-{
-    match act {
-        Act::Step(count) => *count == 1,
-        _ => false,
-    }
-}
-
-/// Whether an item is a subsume of the cut with this hint.
-fn leads_to(act: &Act, hint: HintNo) -> bool
-    ensures { result ≡ leads_to hint.0 act.now }
-{
-    match act {
-        Act::Subsume(target) => target.0 == hint.0,
-        _ => false,
-    }
+    ghost invariant = { λ s. script_fits (ops_of s.parts) s.parts ≡ true };
 }
 
 /// The items behind the first cut.
@@ -103,7 +51,7 @@ fn behind_cut(items: &[Item]) -> &[Item]
 {
     let mut left = items;
     while let Some((item, more)) = left.split_first() {
-        if is_cut(&item.act) {
+        if form::is_cut(&item.act) {
             return more;
         }
         left = more;
@@ -155,13 +103,73 @@ fn obligations_of(act: &Act) -> u64
     }
 }
 
+/// The number of checks at which a run can fail at some items.
+#[tactic(auto, using(crate::proofs::Counting::sums))]
+fn item_obligations(items: &[Item]) -> u64
+    ensures { result ≡ counted (item_obligations items.now) }
+{
+    let mut sum = 0u64;
+    let mut left = items;
+    while let Some((item, more)) = left.split_first() {
+        sum = sum.saturating_add(obligations_of(&item.act));
+        left = more;
+    }
+    sum
+}
+
+/// The number of checks at which a run can fail at a section and its items.
+fn section_obligations(section: &Section) -> u64
+    ensures { result ≡ counted (section_obligations section.now) }
+{
+    if form::is_wire(section.kind) {
+        item_obligations(section.items.as_slice())
+    } else {
+        1
+    }
+}
+
+/// The last hint of a section with these items.
+fn last_item_hint(own: HintNo, items: &[Item]) -> HintNo
+    ensures { result.0 ≡ last_item_hint own.0 items.now }
+{
+    let mut last = own;
+    let mut left = items;
+    while let Some((item, more)) = left.split_first() {
+        last = item.hint;
+        left = more;
+    }
+    last
+}
+
+/// The hint of the first item.
+fn first_hint(items: &[Item]) -> HintNo
+    ensures { result.0 ≡ first_hint items.now }
+{
+    match items.first() {
+        Some(item) => item.hint,
+        None => HintNo(0),
+    }
+}
+
+/// The number of the segment of a hint, by the hint of `wire`.
+fn segment_number(wire: u32, hint: u32) -> u32
+    requires wire { 1 ≤ wire }
+    requires hint { 1 ≤ hint }
+    ensures { result ≡ segment_number wire hint }
+{
+    if hint <= wire {
+        return hint - 1;
+    }
+    if hint - wire <= 2 { hint - 2 } else { hint - 3 }
+}
+
 impl Script {
-    /// The script of these parts: `None` exactly where they aren't of the first form.
-    pub fn new(parts: ScriptParts) -> Option<Script>
-        ensures some { IsSome result ↔ (script_fits parts ≡ true) }
+    /// The script of these parts for a device: `None` exactly where they aren't of the form.
+    pub fn new(dev: &Device, parts: ScriptParts) -> Option<Script>
+        ensures some { IsSome result ↔ (script_fits (length dev.now.spec.ops) parts ≡ true) }
         ensures parts { IfSome result (λ s. s ≡ parts) }
     {
-        if fits_script(&parts) {
+        if form::fits_script(dev, &parts) {
             Some(Script { parts })
         } else {
             None
@@ -171,7 +179,7 @@ impl Script {
     /// The parts that it was made of.
     pub fn parts(&self) -> &ScriptParts
         ensures parts { result.now ≡ self.now }
-        ensures form { script_fits self.now ≡ true }
+        ensures form { script_fits (ops_of self.now) self.now ≡ true }
     {
         &self.parts
     }
@@ -179,42 +187,47 @@ impl Script {
     /// The number of hints: one for each section and each item.
     pub fn hints(&self) -> u32
         ensures count { result ≡ hint_count self.now.sections }
-        ensures all { (c : Circuit) (s : SpecParts) (d : DriverParts) (e : EmuParts) → length (all_hints (segments_of c s d e self.now)) ≡ result }
+        ensures all { (c : Circuit) (s : SpecParts) (d : DriverParts) (e : EmuParts) → length s.ops ≡ ops_of self.now → length (all_hints (segments_of c s d e self.now)) ≡ result }
     {
-        let _parts = self.parts();
-        4
+        let parts = self.parts();
+        let last = last_hint(parts.sections.as_slice());
+        last.0
     }
 
-    /// The number of checks at which a run can fail: two for each tick of a step, and one for each
-    /// other item.
+    /// The number of checks at which a run can fail: two for each tick of a step, one for each
+    /// other item, and one for each section of the host.
+    #[tactic(auto, using(crate::proofs::Counting::sums))]
     pub fn obligations(&self) -> u64
-        ensures { result ≡ counted (item_obligations (section_items self.now.sections)) }
+        ensures { result ≡ counted (obligations self.now.sections) }
     {
         let mut sum = 0u64;
-        let mut left = self.wire();
-        while let Some((item, more)) = left.split_first() {
-            sum = sum.saturating_add(obligations_of(&item.act));
+        let mut left = self.parts.sections.as_slice();
+        while let Some((section, more)) = left.split_first() {
+            sum = sum.saturating_add(section_obligations(section));
             left = more;
         }
         sum
     }
 
-    /// The number of segments: that of `wire` and that of the cut.
+    /// The number of segments: one of each section, and that of the cut.
     pub fn segments(&self) -> u32
-        ensures count { result ≡ 2 }
-        ensures all { (c : Circuit) (s : SpecParts) (d : DriverParts) (e : EmuParts) → length (segments_of c s d e self.now) ≡ result }
+        ensures count { result ≡ length (roots self.now.sections) }
+        ensures all { (c : Circuit) (s : SpecParts) (d : DriverParts) (e : EmuParts) → length s.ops ≡ ops_of self.now → length (segments_of c s d e self.now) ≡ result }
     {
         let _parts = self.parts();
-        2
+        self.hints() - 2
     }
 
-    /// The hint number of a segment's section or cut.
+    /// The hint number of a segment's section or cut; 0 where there is no such segment.
     pub fn hint_of(&self, g: SegmentNo) -> HintNo
-        requires { g.0 < 2 }
-        ensures { (c : Circuit) (s : SpecParts) (d : DriverParts) (e : EmuParts) → result.0 ≡ hint_at (segments_of c s d e self.now) g.0 }
+        ensures { (c : Circuit) (s : SpecParts) (d : DriverParts) (e : EmuParts) → length s.ops ≡ ops_of self.now → result.0 ≡ hint_at (segments_of c s d e self.now) g.0 }
     {
         let _parts = self.parts();
-        if g.0 == 0 { HintNo(1) } else { HintNo(2) }
+        match self.root_of(g) {
+            Some(Root::OfKind(kind)) => self.hint_of_kind(kind),
+            Some(Root::OfCut) => first_hint(self.wire()),
+            None => HintNo(0),
+        }
     }
 
     /// The segment at whose checks a run can fail at a hint. A cut is a hint of the segment that it
@@ -222,53 +235,88 @@ impl Script {
     pub fn segment_of(&self, hint: HintNo) -> SegmentNo
         requires first { 1 ≤ hint.0 }
         requires last { hint.0 ≤ hint_count self.now.sections }
-        ensures number { result.0 < 2 }
-        ensures segment { (c : Circuit) (s : SpecParts) (d : DriverParts) (e : EmuParts) → segment_of hint.0 (segments_of c s d e self.now) ≡ slice_get (segments_of c s d e self.now) result.0 }
+        ensures number { result.0 < length (roots self.now.sections) }
+        ensures segment { (c : Circuit) (s : SpecParts) (d : DriverParts) (e : EmuParts) → length s.ops ≡ ops_of self.now → segment_of hint.0 (segments_of c s d e self.now) ≡ slice_get (segments_of c s d e self.now) result.0 }
     {
         let _parts = self.parts();
-        if hint.0 <= 2 {
-            SegmentNo(0)
-        } else {
-            SegmentNo(1)
-        }
+        let wire = self.hint_of_kind(Kind::Wire);
+        SegmentNo(segment_number(wire.0, hint.0))
+    }
+
+    /// What a segment begins with.
+    pub(crate) fn root_of(&self, g: SegmentNo) -> Option<Root>
+        ensures { result ≡ root_at self.now g.0 }
+    {
+        root_among(self.parts.sections.as_slice(), g.0)
     }
 
     /// The items of `wire`.
-    fn wire(&self) -> &[Item]
-        ensures { result.now ≡ section_items self.now.sections }
+    pub(crate) fn wire(&self) -> &[Item]
+        ensures { result.now ≡ wire_items self.now }
     {
-        match self.parts.sections.as_slice() {
-            [section, ..] => section.items.as_slice(),
-            [] => &[],
-        }
+        form::items_of_kind(Kind::Wire, self.parts.sections.as_slice())
     }
 
-    /// The items that the runs of a segment begin with.
-    pub(crate) fn items_of(&self, g: SegmentNo) -> &[Item]
-        ensures { result.now ≡ segment_items self.now g.0 }
+    /// The condition of the cut.
+    pub(crate) fn cut(&self) -> Option<&Expr>
+        ensures { MatchOption result (first_cut (wire_items self.now) ≡ None) (λ e. first_cut (wire_items self.now) ≡ Some e.now) }
     {
-        if g.0 == 0 {
-            self.wire()
-        } else {
-            behind_cut(self.wire())
-        }
+        first_cut(self.wire())
     }
 
-    /// The condition at the root of a cut's segment; of `wire` none.
-    pub(crate) fn cut_of(&self, g: SegmentNo) -> Option<&Expr>
-        ensures { MatchOption result (segment_cut self.now g.0 ≡ None) (λ e. segment_cut self.now g.0 ≡ Some e.now) }
+    /// The items behind the cut.
+    pub(crate) fn behind_cut(&self) -> &[Item]
+        ensures { result.now ≡ behind_cut (wire_items self.now) }
     {
-        if g.0 == 0 {
-            None
-        } else {
-            first_cut(self.wire())
-        }
+        behind_cut(self.wire())
     }
 
     /// The condition of the cut with this hint.
     pub(crate) fn condition_of(&self, target: HintNo) -> Option<&Expr>
-        ensures { MatchOption result (cut_named target.0 (section_items self.now.sections) ≡ None) (λ e. cut_named target.0 (section_items self.now.sections) ≡ Some e.now) }
+        ensures { MatchOption result (cut_named target.0 (wire_items self.now) ≡ None) (λ e. cut_named target.0 (wire_items self.now) ≡ Some e.now) }
     {
         cut_named(self.wire(), target)
     }
+
+    /// The hint of the section of a kind.
+    pub(crate) fn hint_of_kind(&self, kind: Kind) -> HintNo
+        ensures { result.0 ≡ hint_of_kind kind self.now.sections }
+    {
+        form::hint_of_kind(kind, self.parts.sections.as_slice())
+    }
+}
+
+/// The last hint of some sections.
+fn last_hint(sections: &[Section]) -> HintNo
+    ensures { result.0 ≡ last_hint 0 sections.now }
+{
+    let mut last = HintNo(0);
+    let mut left = sections;
+    while let Some((section, more)) = left.split_first() {
+        last = last_item_hint(section.hint, section.items.as_slice());
+        left = more;
+    }
+    last
+}
+
+/// What the segment with a number begins with, of those of some sections.
+fn root_among(sections: &[Section], number: u32) -> Option<Root>
+    ensures { result ≡ slice_get (roots sections.now) number }
+{
+    let mut wanted = number;
+    let mut left = sections;
+    while let Some((section, more)) = left.split_first() {
+        if wanted == 0 {
+            return Some(Root::OfKind(section.kind));
+        }
+        wanted -= 1;
+        if form::is_wire(section.kind) {
+            if wanted == 0 {
+                return Some(Root::OfCut);
+            }
+            wanted -= 1;
+        }
+        left = more;
+    }
+    None
 }

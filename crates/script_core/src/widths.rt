@@ -1,24 +1,22 @@
-//! The widths of the words that the runs of a device's segments take, and their bits.
-ghost use Rattle.std.specs.Prelude.{◌≡◌, ◌^◌, ◌<◌, ◌++◌, [], drop, replicate, IfOk, OnOk, if◌then◌else◌};
-ghost use Rattle.knox_words.specs.Lists.{total};
+//! The widths of the words that the runs of a device's segments take.
+ghost use Rattle.std.specs.Prelude.{◌≡◌, ◌^◌, ◌++◌, [], drop, replicate, IfOk, OnOk, if◌then◌else◌};
 ghost use Rattle.knox_circuit.specs.Circuit.{cells_of, state_widths, input_widths};
-ghost use Rattle.knox_circuit.specs.Power.{first_keep, persistent_widths};
+ghost use Rattle.knox_circuit.specs.Power.{first_keep, persistent_widths, states_of, noise_widths};
 ghost use Rattle.knox_circuit.specs.States.{size};
 ghost use Rattle.knox_lang.specs.WellFormed.{word_widths};
-ghost use Rattle.script_core.specs.Hints.{segment_items};
-ghost use Rattle.script_core.specs.Widths.{port_widths, tick_count, items_bits};
-ghost use Rattle.script_core.specs.Runs.{segments_of, bits_at, counted};
+ghost use Rattle.script_core.specs.Widths.{port_widths};
 
-use crate::parts::{Act, Item, SegmentNo};
-use crate::script::Script;
 use emu_machine::Device;
-use knox_circuit::{Cell, Port};
+use knox_circuit::{Cell, NoiseCells, Port};
 use knox_words::Word;
 use std::alloc::{AllocError, Global};
 
-/// The widths of a device's words: the specification's fields, the persistent cells, all cells,
-/// the emulator's fields and the inputs, each in order.
+/// The widths of a device's words: the noise words of the factory and of a power-cycle, the
+/// specification's fields, the persistent cells, all cells, the emulator's fields and the inputs,
+/// each in order.
 pub(crate) struct Widths {
+    pub(crate) factory_noise: Vec<u8>,
+    pub(crate) noise: Vec<u8>,
     pub(crate) fields: Vec<u8>,
     pub(crate) persistent: Vec<u8>,
     pub(crate) cells: Vec<u8>,
@@ -29,6 +27,8 @@ pub(crate) struct Widths {
 impl Drop for Widths {
     fn drop(self) {
         let Widths {
+            factory_noise: _factory_noise,
+            noise: _noise,
             fields: _fields,
             persistent: _persistent,
             cells: _cells,
@@ -51,7 +51,7 @@ fn of_ports(alloc: Global, ports: &[Port]) -> Result<Vec<u8>, AllocError>
 }
 
 /// The power of two that is the number of a cell's words.
-fn doublings(index: Option<u8>) -> u8
+pub(crate) fn doublings(index: Option<u8>) -> u8
     ensures { 2 ^ result ≡ size index }
 {
     index.unwrap_or(0)
@@ -91,7 +91,7 @@ fn of_cells(alloc: Global, cells: &[Cell]) -> Result<Vec<u8>, AllocError>
 }
 
 /// Whether the first cell is kept over a power-cycle.
-fn keeps_first(keep: &[bool]) -> bool
+pub(crate) fn keeps_first(keep: &[bool]) -> bool
     ensures { result ≡ first_keep keep.now }
 {
     match keep.first() {
@@ -101,7 +101,7 @@ fn keeps_first(keep: &[bool]) -> bool
 }
 
 /// Whether the others are.
-fn others(keep: &[bool]) -> &[bool]
+pub(crate) fn others(keep: &[bool]) -> &[bool]
     ensures { result.now ≡ drop 1 keep.now }
 {
     match keep.split_first() {
@@ -137,9 +137,33 @@ fn of_kept(alloc: Global, cells: &[Cell], keep: &[bool]) -> Result<Vec<u8>, Allo
     Ok(out)
 }
 
+/// The widths of the words of states that take noise words.
+#[tactic(auto, using(crate::proofs::Widening::widening))]
+fn of_noise_cells(alloc: Global, cells: NoiseCells) -> Result<Vec<u8>, AllocError>
+    ensures { IfOk result (λ ws. ws.items ≡ state_widths cells.entry) }
+{
+    let mut out = Vec::new(alloc);
+    let mut left = cells;
+    while let Some(next) = left.next() {
+        push_cell(&mut out, next.cell)?;
+    }
+    Ok(out)
+}
+
+/// The widths of the noise words of a power-cycle that keeps some cells.
+fn of_noise(alloc: Global, dev: &Device, keep: &[bool]) -> Result<Vec<u8>, AllocError>
+    ensures { IfOk result (λ ws. ws.items ≡ noise_widths (states_of dev.now.circuit.lines) keep.now) }
+{
+    knox_circuit::circuits_have_widths(&dev.circuit);
+    let widths = of_noise_cells(alloc, dev.circuit.noise_walk(keep))?;
+    Ok(widths)
+}
+
 impl Widths {
     /// The widths of a device's words.
     pub(crate) fn of(alloc: Global, dev: &Device) -> Result<Widths, AllocError>
+        ensures factory_noise { IfOk result (λ w. w.factory_noise.items ≡ noise_widths (states_of dev.now.circuit.lines) []) }
+        ensures noise { IfOk result (λ w. w.noise.items ≡ noise_widths (states_of dev.now.circuit.lines) dev.now.driver.keep) }
         ensures fields { IfOk result (λ w. w.fields.items ≡ word_widths dev.now.spec.init) }
         ensures persistent { IfOk result (λ w. w.persistent.items ≡ persistent_widths (cells_of dev.now.circuit.lines) dev.now.driver.keep) }
         ensures cells { IfOk result (λ w. w.cells.items ≡ state_widths (cells_of dev.now.circuit.lines)) }
@@ -148,190 +172,13 @@ impl Widths {
     {
         let cells = dev.circuit.cells();
         Ok(Widths {
+            factory_noise: of_noise(alloc, dev, &[])?,
+            noise: of_noise(alloc, dev, dev.driver.keep())?,
             fields: of_words(alloc, dev.spec.parts().init.as_slice())?,
             persistent: of_kept(alloc, cells, dev.driver.keep())?,
             cells: of_cells(alloc, cells)?,
             emu: of_words(alloc, dev.emulator.parts().init.as_slice())?,
             inputs: of_ports(alloc, dev.circuit.inputs())?,
         })
-    }
-}
-
-#[tactic(auto, using(crate::proofs::Counting::sums))]
-fn bits_of_words(words: &[Word]) -> u64
-    ensures { result ≡ counted (total (word_widths words.now)) }
-{
-    let mut sum = 0u64;
-    let mut left = words;
-    while let Some((word, more)) = left.split_first() {
-        sum = sum.saturating_add(u64::from(word.width()));
-        left = more;
-    }
-    sum
-}
-
-#[tactic(auto, using(crate::proofs::Counting::sums))]
-fn bits_of_ports(ports: &[Port]) -> u64
-    ensures { result ≡ counted (total (port_widths ports.now)) }
-{
-    let mut sum = 0u64;
-    let mut left = ports;
-    while let Some((port, more)) = left.split_first() {
-        sum = sum.saturating_add(u64::from(port.width));
-        left = more;
-    }
-    sum
-}
-
-/// Two to a power.
-#[tactic(auto, using(crate::proofs::Counting::sums))]
-fn power_of_two(doublings: u8) -> u64
-    ensures { result ≡ counted (2 ^ doublings) }
-{
-    let mut power = 1u64;
-    for _ in 0..doublings {
-        power = power.saturating_add(power);
-    }
-    power
-}
-
-/// The bits of a cell.
-#[tactic(auto, using(crate::proofs::Counting::sums))]
-fn bits_of_cell(cell: &Cell) -> u64
-    ensures { result ≡ counted (total (replicate (size cell.now.index) cell.now.width)) }
-{
-    power_of_two(doublings(cell.index)).saturating_mul(u64::from(cell.width))
-}
-
-/// The bits of the cells.
-#[tactic(auto, using(crate::proofs::Counting::sums))]
-fn bits_of_cells(cells: &[Cell]) -> u64
-    ensures { result ≡ counted (total (state_widths cells.now)) }
-{
-    let mut sum = 0u64;
-    let mut left = cells;
-    while let Some((cell, more)) = left.split_first() {
-        sum = sum.saturating_add(bits_of_cell(cell));
-        left = more;
-    }
-    sum
-}
-
-/// The bits of the first cell, if it is kept.
-fn bits_if_kept(cell: &Cell, keep: &[bool]) -> u64
-    ensures { result ≡ counted (total (if first_keep keep.now then replicate (size cell.now.index) cell.now.width else [])) }
-{
-    if keeps_first(keep) {
-        bits_of_cell(cell)
-    } else {
-        0
-    }
-}
-
-/// The bits of the cells that are kept over a power-cycle.
-#[tactic(auto, using(crate::proofs::Counting::sums))]
-fn bits_of_kept(cells: &[Cell], keep: &[bool]) -> u64
-    ensures { result ≡ counted (total (persistent_widths cells.now keep.now)) }
-{
-    let mut sum = 0u64;
-    let mut left = cells;
-    let mut kept = keep;
-    while let Some((cell, more)) = left.split_first() {
-        sum = sum.saturating_add(bits_if_kept(cell, kept));
-        left = more;
-        kept = others(kept);
-    }
-    sum
-}
-
-/// The ticks of a step; no other item has any, but ends its segment.
-fn tick_count(act: &Act) -> Option<u32>
-    ensures { result ≡ tick_count act.now }
-{
-    match act {
-        Act::Step(count) => Some(*count),
-        _ => None,
-    }
-}
-
-/// The bits that items take up to the end of their segment, with so many for each tick.
-#[tactic(auto, using(crate::proofs::Counting::sums))]
-fn bits_of_items(items: &[Item], per_tick: u64) -> u64
-    ensures { result ≡ counted (items_bits per_tick items.now) }
-{
-    let mut sum = 0u64;
-    let mut left = items;
-    while let Some((item, more)) = left.split_first() {
-        match tick_count(&item.act) {
-            Some(count) => {
-                sum = sum.saturating_add(u64::from(count).saturating_mul(per_tick));
-            }
-            None => return sum,
-        }
-        left = more;
-    }
-    sum
-}
-
-/// The bits of a segment's items.
-fn item_bits(dev: &Device, sc: &Script, g: SegmentNo) -> u64
-    ensures { result ≡ counted (items_bits (counted (total (input_widths dev.now.circuit.lines))) (segment_items sc.now g.0)) }
-{
-    bits_of_items(sc.items_of(g), bits_of_ports(dev.circuit.inputs()))
-}
-
-fn field_bits(dev: &Device) -> u64
-    ensures { result ≡ counted (total (word_widths dev.now.spec.init)) }
-{
-    bits_of_words(dev.spec.parts().init.as_slice())
-}
-
-fn emulator_bits(dev: &Device) -> u64
-    ensures { result ≡ counted (total (word_widths dev.now.emulator.init)) }
-{
-    bits_of_words(dev.emulator.parts().init.as_slice())
-}
-
-fn cell_bits(dev: &Device) -> u64
-    ensures { result ≡ counted (total (state_widths (cells_of dev.now.circuit.lines))) }
-{
-    bits_of_cells(dev.circuit.cells())
-}
-
-fn kept_bits(dev: &Device) -> u64
-    ensures { result ≡ counted (total (persistent_widths (cells_of dev.now.circuit.lines) dev.now.driver.keep)) }
-{
-    bits_of_kept(dev.circuit.cells(), dev.driver.keep())
-}
-
-/// Of the segment of `wire`: the fields and the cells that are kept, since no device takes noise.
-fn wire_bits(dev: &Device, sc: &Script) -> u64
-    ensures { result ≡ counted (bits_at (segments_of dev.now.circuit dev.now.spec dev.now.driver dev.now.emulator sc.now) 0) }
-{
-    emu_machine::devices_take_no_noise(dev);
-    let _parts = sc.parts();
-    let root = field_bits(dev).saturating_add(kept_bits(dev));
-    root.saturating_add(item_bits(dev, sc, SegmentNo(0)))
-}
-
-/// Of the segment of the cut: the fields, all cells and the emulator's words.
-fn cut_bits(dev: &Device, sc: &Script) -> u64
-    ensures { result ≡ counted (bits_at (segments_of dev.now.circuit dev.now.spec dev.now.driver dev.now.emulator sc.now) 1) }
-{
-    let _parts = sc.parts();
-    let words = cell_bits(dev).saturating_add(emulator_bits(dev));
-    let root = field_bits(dev).saturating_add(words);
-    root.saturating_add(item_bits(dev, sc, SegmentNo(1)))
-}
-
-/// The bits that the widest run of a segment takes, up to 2^64 - 1.
-pub fn choice_bits(dev: &Device, sc: &Script, g: SegmentNo) -> u64
-    requires { g.0 < 2 }
-    ensures { result ≡ counted (bits_at (segments_of dev.now.circuit dev.now.spec dev.now.driver dev.now.emulator sc.now) g.0) }
-{
-    if g.0 == 0 {
-        wire_bits(dev, sc)
-    } else {
-        cut_bits(dev, sc)
     }
 }

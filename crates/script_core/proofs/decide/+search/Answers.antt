@@ -1,7 +1,7 @@
 use Rattle.std.proofs.Common.{◌≡◌, ◌≤◌, Some, true, false, refl, subst, sym, ◌∙◌, arith}
 use Rattle.knox_words.specs.Bits.{IsWord, bits}
 use Rattle.knox_theory.specs.Searched.{wants}
-use Rattle.emu_machine.specs.Meaning.{design_of}
+use Rattle.device_design.specs.Meaning.{design_of}
 use Rattle.script_core.specs.Hints.{script_of}
 use Rattle.script_core.proofs.Deciding.{course_in, wanted, wanted-fits, failed, over, no-word, left-less, taken-whole, all-tried}
 use Rattle.script_core.proofs.decide.+search.Goals as goal
@@ -17,7 +17,7 @@ search-try_words-requires t c =
     wanted (course_in v p c.args.g.0) c.in_ok-hint.field-0 c.as_slice.result.now c.args.front.now c.in-Wants.width c.in-Wants.is c.in_ok-hint.ensures.run c.as_slice.ensures in
     let fits : c.in-Wants.width ≤ c.args.left =
     wanted-fits (design_of v.circuit v.spec v.driver v.emulator) (script_of v.circuit v.spec v.driver p) c.args.g.0 c.args.front.now c.in-Wants.width c.args.left c.requires.left want in
-    (omega (arith, c.decreases), (c.requires.segment, (c.run_over.ensures.room ∙ c.requires.room, (c.requires.left, (c.requires.few, (fits, want))))))
+    (omega (arith, c.decreases), (c.requires.of, (c.run_over.ensures.room ∙ c.requires.room, (c.requires.left, (c.requires.few, (fits, want))))))
 
 pub search-returns-in-Failed-clause-found : goal.search-returns-in-Failed-clause-found
 search-returns-in-Failed-clause-found t c = record {
@@ -44,7 +44,7 @@ try_word-search-requires t c =
     let same : c.from-2.result ≡ c.args.width = c.from-2.ensures in
     let less = left-less c.args.front.now c.push.new.self c.in-Some.word c.args.width c.from.result c.from-2.result c.args.left _ c.requires.left c.requires.within same c.in-Some.ensures.some c.in_ok-push.ensures.ok in
     let taken = taken-whole (course_in c.args.dev.now c.args.sc.now c.args.g.0) c.args.front.now c.push.new.self c.in-Some.word c.args.width c.from.result c.requires.wanted word c.in-Some.ensures.some c.in_ok-push.ensures.ok in
-    (omega (arith, c.decreases, wide, same, c.requires.within), (c.requires.segment, (c.requires.room, (less, (omega (arith, c.requires.few), taken)))))
+    (omega (arith, c.decreases, wide, same, c.requires.within), (c.requires.of, (c.requires.room, (less, (omega (arith, c.requires.few), taken)))))
 
 pub try_words-returns-clause-found : goal.try_words-returns-clause-found
 try_words-returns-clause-found t c =

@@ -1,4 +1,4 @@
-use Rattle.std.proofs.Common.{◌≡◌, ◌∙◌, ap, ℕ, List, [], length, true}
+use Rattle.std.proofs.Common.{◌≡◌, ◌∙◌, ap, ℕ, length, true, subst, sym, List, Bool}
 use Rattle.knox_words.specs.Lists.{fit}
 use Rattle.knox_circuit.specs.Circuit.{cells_of, state_widths}
 use Rattle.knox_circuit.specs.Power.{states_of, noise_widths}
@@ -12,7 +12,7 @@ pub returns-clause-fit : goal.returns-clause-fit
 returns-clause-fit c =
     let lines = c.args.dev.now.circuit.lines in
     let keep = c.keep.result.now in
-    let quiet : fit (noise_widths (states_of lines) keep) c.new.result ≡ true = ap (λ (ns : List ℕ). fit ns c.new.result) (c.devices_take_no_noise.ensures keep) ∙ ap (fit []) c.new.ensures in
     ap (fit (state_widths (cells_of lines))) c.in_ok-self.ensures.words
-    ∙ c.circuits_keep_widths.ensures.power keep c.swap.new.x c.new.result (ap length c.keep.ensures ∙ keep-fits c.args.dev.now)
-    (ap (fit (state_widths (cells_of lines))) c.swap.ensures.x_after ∙ c.requires) quiet
+    ∙ c.circuits_keep_widths.ensures.power keep c.swap.new.x c.args.self.now.noise.words (ap length c.keep.ensures ∙ keep-fits c.args.dev.now)
+    (ap (fit (state_widths (cells_of lines))) c.swap.ensures.x_after ∙ c.requires.cells)
+    (ap (λ (ks : List Bool). fit (noise_widths (states_of lines) ks) c.args.self.now.noise.words) c.keep.ensures ∙ c.requires.noise)

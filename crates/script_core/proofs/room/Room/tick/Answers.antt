@@ -21,7 +21,7 @@ returns-then-not-branch-clause-run c n items =
     let t = subst (λ (l : Left). Takes c.as_slice.result.now c.args.words.now c.take_words.new.into l) c.in-On.is c.in_ok-end.ensures in
     tick-differs c.args.dev.now c.args.sc.now c.args.hint.0 n items (state_in c.args.self.now) c.as_slice.result.now c.args.words.now c.take_words.new.into c.in-On.left.now
     (c.as_slice.ensures.value ∙ ap (λ (s : RoomSizes). s.inputs) c.requires.made)
-    t.1
+    t
     (sym c.in_ok-shows_the_same.ensures.value ∙ c.if-not-branch.true)
 
 pub returns-else-branch-clause-run : goal.returns-else-branch-clause-run
@@ -31,7 +31,7 @@ returns-else-branch-clause-run c n items =
     let same = c.in_ok-shows_the_same.ensures in
     tick-unrefined v c.args.sc.now c.args.hint.0 n items (state_in c.args.self.now) c.as_slice.result.now c.args.words.now c.take_words.new.into c.in-On.left.now
     (c.as_slice.ensures.value ∙ ap (λ (s : RoomSizes). s.inputs) c.requires.made)
-    t.1
+    t
     (sym same.value ∙ c.if-not-branch.false)
     (state_in c.tick_both.new.self)
     (c.in_ok-tick_both.ensures.state ∙ (λ i. ticked (design v) (same.state i) (same.inputs i)))
@@ -46,7 +46,7 @@ returns-then-branch-clause-run c n items =
       ap (λ (st : State). fit (state_widths (cells_of v.circuit.lines)) st.cells) refined.state ∙ c.in_ok-tick_both.ensures.cells,
       tick-on v c.args.sc.now c.args.hint.0 n items (state_in c.args.self.now) c.as_slice.result.now c.args.words.now c.take_words.new.into c.in-On.left.now
           (c.as_slice.ensures.value ∙ ap (λ (s : RoomSizes). s.inputs) c.requires.made)
-          t.1
+          t
           (sym same.value ∙ c.if-not-branch.false)
           (state_in c.stays_refined.new.self)
           (refined.state ∙ (c.in_ok-tick_both.ensures.state ∙ (λ i. ticked (design v) (same.state i) (same.inputs i))))

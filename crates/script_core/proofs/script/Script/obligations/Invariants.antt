@@ -1,10 +1,10 @@
 use Rattle.std.proofs.Common.{◌≡◌, ◌+◌, ◌≤◌, length}
-use Rattle.script_core.specs.Hints.{item_obligations, section_items}
+use Rattle.script_core.specs.Hints.{obligations}
 use Rattle.script_core.specs.Runs.{counted}
 use Rattle.script_core.proofs.script.Script.obligations.Given as goal
 
-abbrev pub invariant-loop-item : goal.invariant-loop-item
-invariant-loop-item l = (l.sum ≤ 18446744073709551615) × (counted (l.sum + item_obligations l.left) ≡ counted (item_obligations (section_items l.fn.self.sections)))
+abbrev pub invariant-loop-section : goal.invariant-loop-section
+invariant-loop-section l = (l.sum ≤ 18446744073709551615) × (counted (l.sum + obligations l.left) ≡ counted (obligations l.fn.self.sections))
 
-abbrev pub decreases-loop-item : goal.decreases-loop-item
-decreases-loop-item l = length l.left
+abbrev pub decreases-loop-section : goal.decreases-loop-section
+decreases-loop-section l = length l.left

@@ -1,18 +1,20 @@
-use Rattle.std.proofs.Common.{◌≡◌, ◌<◌, ◌≤◌, ◌⊎◌, ℕ, arith}
-use Rattle.script_core.proofs.Formed.{formed, low-hint, high-hint}
+use Rattle.std.proofs.Common.{◌∙◌, ◌≤◌, ◌<◌, ap, sym, subst, length, slice_get}
+use Rattle.script_core.specs.Hints.{roots}
+use Rattle.script_core.specs.Forms.{segment_number}
+use Rattle.script_core.specs.Runs.{segments_of}
+use Rattle.script_core.proofs.Formed.{formed-for, wire-counts, number-below}
+use Rattle.script_core.proofs.Listing.{segment-found}
 use Rattle.script_core.proofs.script.Script.segment_of.Goals as goal
 
-low : (h : ℕ) → 1 ≤ h → h ≤ 2 → (h ≡ 1) ⊎ (h ≡ 2)
-low h a b = grind arith
+pub segment_number-requires-clause-wire : goal.segment_number-requires-clause-wire
+segment_number-requires-clause-wire c = subst (λ n. 1 ≤ n) (sym c.hint_of_kind-wire.ensures) (wire-counts c.args.self.now c.parts-parts.ensures.form)
 
-high : (h n : ℕ) → 2 < h → h ≤ n → n ≡ 4 → (h ≡ 3) ⊎ (h ≡ 4)
-high h n a b e = grind arith
+pub returns-clause-number : goal.returns-clause-number
+returns-clause-number c =
+    subst (λ n. n < length (roots c.args.self.now.sections)) (sym (c.segment_number.ensures ∙ ap (λ w. segment_number w c.args.hint.0) c.hint_of_kind-wire.ensures))
+    (number-below c.args.self.now c.parts-parts.ensures.form c.args.hint.0 c.requires.last)
 
-pub returns-then-hint-le2-clause-segment : goal.returns-then-hint-le2-clause-segment
-returns-then-hint-le2-clause-segment c circuit s d e =
-    low-hint circuit s d e c.args.self.now c.parts-parts.ensures.form c.args.hint.0 (low c.args.hint.0 c.requires.first c.if-hint-le2.true)
-
-pub returns-else-hint-le2-clause-segment : goal.returns-else-hint-le2-clause-segment
-returns-else-hint-le2-clause-segment c circuit s d e =
-    high-hint circuit s d e c.args.self.now c.parts-parts.ensures.form c.args.hint.0
-    (high c.args.hint.0 _ c.if-hint-le2.false c.requires.last (formed c.args.self.now c.parts-parts.ensures.form).count)
+pub returns-clause-segment : goal.returns-clause-segment
+returns-clause-segment c circuit s d e of =
+    segment-found circuit s d e c.args.self.now (formed-for _ c.args.self.now of c.parts-parts.ensures.form) c.args.hint.0 c.requires.first
+    ∙ ap (slice_get (segments_of circuit s d e c.args.self.now)) (sym (c.segment_number.ensures ∙ ap (λ w. segment_number w c.args.hint.0) c.hint_of_kind-wire.ensures))
