@@ -1,1 +1,4 @@
-pub mod Facts
+pub mod Taken
+pub mod Forms
+pub mod Texts
+pub mod Lacking

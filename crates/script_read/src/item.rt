@@ -1,6 +1,6 @@
-//! Conditions and forms: `(refine e)`, and `(wire (cut A e) (step 1) (subsume A))`.
+//! Conditions and forms: `(refine e)` and `(idle e)`, and `(wire (cut A e) (step 1) (subsume A))`.
 ghost use Rattle.expr_read.specs.Views.{Gives, Sees};
-ghost use Rattle.script_read.specs.Scripts.{limited, condition, sole, operand, refine, cut_in, cut, one_tick, step, leads_to, subsume, wire_in, wire};
+ghost use Rattle.script_read.specs.Scripts.{limited, condition, sole, operand, stated, cut_in, cut, one_tick, step, leads_to, subsume, wire_in, wire};
 
 use expr_read::{
     LangFault, LangWhy, Named, Typed, behind_head, expr_of_width, fault, number_of, place_of,
@@ -44,18 +44,27 @@ fn sole(at: Place, parts: &[Tree]) -> Result<&Tree, LangFault>
 }
 
 /// What stands alone behind the word that a list has to begin with.
-fn operand<'a>(tree: &'a Tree, word: &[u8]) -> Result<&'a Tree, LangFault>
+pub(crate) fn operand<'a>(tree: &'a Tree, word: &[u8]) -> Result<&'a Tree, LangFault>
     ensures { Sees (λ x. x.now) result (operand word.now tree.now) }
 {
     let parts = behind_head(tree, word)?;
     sole(place_of(tree), parts)
 }
 
-/// `(refine e)`.
-pub(crate) fn refine(alloc: Global, tree: &Tree, names: &[Named]) -> Result<Expr, LangFault>
-    ensures { Gives result (refine names.now tree.now) }
+/// The condition of `(refine e)` or `(idle e)`, by the form's word, where it isn't known yet.
+pub(crate) fn stated(
+    alloc: Global,
+    known: bool,
+    tree: &Tree,
+    word: &[u8],
+    names: &[Named],
+) -> Result<Expr, LangFault>
+    ensures { Gives result (stated known word.now names.now tree.now) }
 {
-    let e = operand(tree, b"refine")?;
+    if known {
+        return Err(fault(place_of(tree), LangWhy::Form));
+    }
+    let e = operand(tree, word)?;
     condition(alloc, e, names)
 }
 

@@ -1,6 +1,6 @@
 //! The names that conditions see.
 ghost use Rattle.std.specs.Prelude.{◌≡◌, IfOk};
-ghost use Rattle.script_read.specs.Scripts.{refine_names, all_cells, cut_names};
+ghost use Rattle.script_read.specs.Scripts.{refine_names, all_cells, idle_names, cut_names, names_for};
 
 use emu_machine::Device;
 use expr_read::{Named, declare_fields, declare_marked};
@@ -9,8 +9,16 @@ use knox_lang::Space;
 use sqlite_items::Items;
 use std::alloc::{AllocError, Global};
 
+/// The names that conditions see: `refine`, `idle` and a cut.
+#[derive(Drop)]
+pub(crate) struct Names {
+    pub refine: Items<Named>,
+    pub idle: Items<Named>,
+    pub cut: Items<Named>,
+}
+
 /// The names that `refine` sees: `(s x)`, and `(c x)` of persistent cells.
-pub(crate) fn refine_names(alloc: Global, dev: &Device) -> Result<Items<Named>, AllocError>
+fn refine_names(alloc: Global, dev: &Device) -> Result<Items<Named>, AllocError>
     ensures { IfOk result (λ names. names ≡ refine_names dev.now.circuit dev.now.spec dev.now.driver) }
 {
     let mut names = Items::new(alloc);
@@ -31,14 +39,32 @@ fn all_cells(alloc: Global, cells: &[Cell]) -> Result<Items<bool>, AllocError>
     Ok(marks)
 }
 
-/// The names that a cut sees: `(s x)`, `(c x)` of every cell, and `(e x)`.
-pub(crate) fn cut_names(alloc: Global, dev: &Device) -> Result<Items<Named>, AllocError>
-    ensures { IfOk result (λ names. names ≡ cut_names dev.now.circuit dev.now.spec dev.now.emulator) }
+/// The names that `idle` sees: `(s x)`, and `(c x)` of every cell.
+fn idle_names(alloc: Global, dev: &Device) -> Result<Items<Named>, AllocError>
+    ensures { IfOk result (λ names. names ≡ idle_names dev.now.circuit dev.now.spec) }
 {
     let mut names = Items::new(alloc);
     declare_fields(alloc, Space::Spec, dev.spec.fields(), &mut names)?;
     let marks = all_cells(alloc, dev.circuit.cells())?;
     declare_marked(alloc, dev.circuit.cells(), marks.as_slice(), &mut names)?;
+    Ok(names)
+}
+
+/// The names that a cut sees: those that `idle` sees, and `(e x)`.
+fn cut_names(alloc: Global, dev: &Device) -> Result<Items<Named>, AllocError>
+    ensures { IfOk result (λ names. names ≡ cut_names dev.now.circuit dev.now.spec dev.now.emulator) }
+{
+    let mut names = idle_names(alloc, dev)?;
     declare_fields(alloc, Space::Emu, dev.emulator.fields(), &mut names)?;
     Ok(names)
+}
+
+/// The names that the conditions of a script see.
+pub(crate) fn names_for(alloc: Global, dev: &Device) -> Result<Names, AllocError>
+    ensures { IfOk result (λ names. names ≡ names_for dev.now.circuit dev.now.spec dev.now.driver dev.now.emulator) }
+{
+    let refine = refine_names(alloc, dev)?;
+    let idle = idle_names(alloc, dev)?;
+    let cut = cut_names(alloc, dev)?;
+    Ok(Names { refine, idle, cut })
 }

@@ -1,164 +1,94 @@
-//! Scripts of hints: a `refine` form and a `wire` form, in any order.
-ghost use Rattle.std.specs.Prelude.{◌≡◌, IfOk};
+//! Scripts of hints: `refine`, `idle` and sections, in any order.
+ghost use Rattle.std.specs.Prelude.{◌≡◌, length, IfOk, true};
 ghost use Rattle.expr_read.specs.Views.{Gives};
+ghost use Rattle.script_core.specs.Hints.{script_fits};
 ghost use Rattle.script_read.specs.Faults.{Tells};
-ghost use Rattle.script_read.specs.Scripts.{refine_names, cut_names, refine, wire, section, script_of, last, wire_first, refine_first, forms, script_text};
+ghost use Rattle.script_read.specs.Scripts.{names_for, nothing, form, forms, finished, text, script_text};
 
+use crate::draft::{Draft, Said, add, finished, nothing};
 use crate::fault::{ScriptFault, script_fault};
-use crate::item::{refine, wire};
-use crate::scope::{cut_names, refine_names};
+use crate::item::stated;
+use crate::scope::{Names, names_for};
+use crate::section::section;
 use emu_machine::Device;
-use expr_read::{LangFault, LangWhy, Named, fault, is_headed, no_more};
-use knox_lang::Expr;
+use expr_read::{LangFault, is_headed};
+use knox_lang::OpHead;
 use knox_sexpr::Tree;
 use knox_text::Place;
-use script_core::{Act, HintNo, Item, Kind, Script, ScriptParts, Section};
-use sqlite_items::Items;
-use std::alloc::{AllocError, Global};
+use script_core::{Script, ScriptParts};
+use std::alloc::Global;
 
-/// The section of a cut's condition, with its hint numbers.
-fn section(alloc: Global, cut: Expr) -> Result<Section, AllocError>
-    ensures { IfOk result (λ made. made ≡ section cut) }
+/// What a tree says, beside what was read so far.
+fn form(
+    alloc: Global,
+    names: &Names,
+    ops: &[OpHead],
+    draft: &Draft,
+    tree: &Tree,
+) -> Result<Said, LangFault>
+    ensures { Gives result (form names.now ops.now draft.now tree.now) }
 {
-    let mut items = Items::new(alloc);
-    items.push(Item {
-        hint: HintNo(2),
-        act: Act::Cut(cut),
-    })?;
-    items.push(Item {
-        hint: HintNo(3),
-        act: Act::Step(1),
-    })?;
-    items.push(Item {
-        hint: HintNo(4),
-        act: Act::Subsume(HintNo(2)),
-    })?;
-    Ok(Section {
-        hint: HintNo(1),
-        kind: Kind::Wire,
-        items,
-    })
+    if is_headed(tree, b"refine") {
+        let known = draft.refine.is_some();
+        let condition = stated(alloc, known, tree, b"refine", names.refine.as_slice())?;
+        return Ok(Said::Refine(condition));
+    }
+    if is_headed(tree, b"idle") {
+        let known = draft.idle.is_some();
+        let condition = stated(alloc, known, tree, b"idle", names.idle.as_slice())?;
+        return Ok(Said::Idle(condition));
+    }
+    section(alloc, names, ops, draft.left.as_slice(), tree)
 }
 
-/// The parts of a script, by the conditions of `refine` and of the cut.
-fn parts_of(alloc: Global, refine: Expr, cut: Expr) -> Result<ScriptParts, AllocError>
-    ensures { IfOk result (λ parts. parts ≡ script_of refine cut) }
+/// What the trees of a text say.
+fn forms(alloc: Global, names: &Names, ops: &[OpHead], trees: &[Tree]) -> Result<Draft, LangFault>
+    ensures { Gives result (forms names.now ops.now (nothing (length ops.now)) trees.now) }
 {
-    let mut sections = Items::new(alloc);
-    sections.push(section(alloc, cut)?)?;
-    Ok(ScriptParts { refine, sections })
+    let mut draft = nothing(alloc, ops.len())?;
+    for tree in trees {
+        let said = form(alloc, names, ops, &draft, tree)?;
+        add(alloc, &mut draft, said)?;
+    }
+    Ok(draft)
 }
 
-/// The script of two conditions.
-fn script_of(alloc: Global, refine: Expr, cut: Expr) -> Result<Script, AllocError>
-    ensures { IfOk result (λ script. script ≡ script_of refine cut) }
+/// The parts of the script of a text that ends at a place.
+fn text(
+    alloc: Global,
+    names: &Names,
+    ops: &[OpHead],
+    end: Place,
+    trees: &[Tree],
+) -> Result<ScriptParts, LangFault>
+    ensures { Gives result (text names.now ops.now end trees.now) }
 {
-    match Script::new(parts_of(alloc, refine, cut)?) {
-        Some(script) => Ok(script),
+    let draft = forms(alloc, names, ops, trees)?;
+    finished(end, draft)
+}
+
+/// The script of these parts, which are of the form.
+fn script_of(dev: &Device, parts: ScriptParts) -> Script
+    requires { script_fits (length dev.now.spec.ops) parts ≡ true }
+    ensures { result ≡ parts }
+{
+    match Script::new(dev, parts) {
+        Some(script) => script,
         None => unreachable!(),
-    }
-}
-
-/// A `refine` form that stands last in a text.
-fn last_refine(
-    alloc: Global,
-    trees: &[Tree],
-    end: Place,
-    names: &[Named],
-) -> Result<Expr, LangFault>
-    ensures { Gives result (last (refine names.now) end trees.now) }
-{
-    match trees.split_first() {
-        Some((tree, more)) => {
-            let condition = refine(alloc, tree, names)?;
-            no_more(more)?;
-            Ok(condition)
-        }
-        None => Err(fault(end, LangWhy::Missing)),
-    }
-}
-
-/// A `wire` form that stands last in a text.
-fn last_wire(alloc: Global, trees: &[Tree], end: Place, names: &[Named]) -> Result<Expr, LangFault>
-    ensures { Gives result (last (wire names.now) end trees.now) }
-{
-    match trees.split_first() {
-        Some((tree, rest)) => {
-            let condition = wire(alloc, tree, names)?;
-            no_more(rest)?;
-            Ok(condition)
-        }
-        None => Err(fault(end, LangWhy::Missing)),
-    }
-}
-
-/// The script of a text whose first tree is a `wire` form.
-fn wire_first(
-    alloc: Global,
-    tree: &Tree,
-    more: &[Tree],
-    end: Place,
-    of_refine: &[Named],
-    of_cut: &[Named],
-) -> Result<Script, LangFault>
-    ensures { Gives result (wire_first of_refine.now of_cut.now end tree.now more.now) }
-{
-    let cut = wire(alloc, tree, of_cut)?;
-    let refine = last_refine(alloc, more, end, of_refine)?;
-    let script = script_of(alloc, refine, cut)?;
-    Ok(script)
-}
-
-/// The script of a text whose first tree is a `refine` form.
-fn refine_first(
-    alloc: Global,
-    tree: &Tree,
-    more: &[Tree],
-    end: Place,
-    of_refine: &[Named],
-    of_cut: &[Named],
-) -> Result<Script, LangFault>
-    ensures { Gives result (refine_first of_refine.now of_cut.now end tree.now more.now) }
-{
-    let refine = refine(alloc, tree, of_refine)?;
-    let cut = last_wire(alloc, more, end, of_cut)?;
-    let script = script_of(alloc, refine, cut)?;
-    Ok(script)
-}
-
-/// The script of the trees of a text, by the names that its conditions see.
-fn forms(
-    alloc: Global,
-    trees: &[Tree],
-    end: Place,
-    of_refine: &[Named],
-    of_cut: &[Named],
-) -> Result<Script, LangFault>
-    ensures { Gives result (forms of_refine.now of_cut.now end trees.now) }
-{
-    match trees.split_first() {
-        Some((tree, more)) => {
-            if is_headed(tree, b"wire") {
-                wire_first(alloc, tree, more, end, of_refine, of_cut)
-            } else {
-                refine_first(alloc, tree, more, end, of_refine, of_cut)
-            }
-        }
-        None => Err(fault(end, LangWhy::Missing)),
     }
 }
 
 /// The script of the trees of a text for a device.
 fn script_for(alloc: Global, trees: &[Tree], end: Place, dev: &Device) -> Result<Script, LangFault>
-    ensures { Gives result (forms (refine_names dev.now.circuit dev.now.spec dev.now.driver) (cut_names dev.now.circuit dev.now.spec dev.now.emulator) end trees.now) }
+    ensures { Gives result (text (names_for dev.now.circuit dev.now.spec dev.now.driver dev.now.emulator) dev.now.spec.ops end trees.now) }
 {
-    let of_refine = refine_names(alloc, dev)?;
-    let of_cut = cut_names(alloc, dev)?;
-    forms(alloc, trees, end, of_refine.as_slice(), of_cut.as_slice())
+    let names = names_for(alloc, dev)?;
+    let parts = text(alloc, &names, dev.spec.ops(), end, trees)?;
+    Ok(script_of(dev, parts))
 }
 
-/// The script of hints that the trees of a text mean for a device, where the text ends at a place.
-/// Read today are texts of one `refine` form and one `wire` form, in any order.
+/// The script of hints that the trees of a text mean for a device, where the text ends at a place:
+/// one `refine`, one `idle` and a section of each kind, in any order.
 pub fn read_script(
     alloc: Global,
     trees: &[Tree],
