@@ -1,10 +1,10 @@
 -- Kinds of sections: each stands once among those of a device, so sections of each kind are sections of these kinds that differ, as many as there are.
-use Rattle.std.proofs.Common.{◌≡◌, ◌∙◌, ℕ, zero, suc, ◌+◌, ◌-◌, ◌<◌, ◌≤◌, ◌==◌, nat_lt, ◌&&◌, not, ◌⊎◌, inl, inr, Option, Some, None, List, [], ◌∷◌, ◌++◌, length, Bool, true, false, if◌then◌else◌, refl, ap, sym, subst, eqb-true, arith}
+use Rattle.std.proofs.Common.{◌≡◌, ◌∙◌, ℕ, zero, suc, ◌+◌, ◌-◌, ◌<◌, ◌≤◌, ◌==◌, nat_lt, ◌&&◌, not, Option, Some, None, List, [], ◌∷◌, ◌++◌, length, Bool, true, false, if◌then◌else◌, refl, ap, sym, subst, eqb-true, arith}
 use Rattle.knox_theory.proofs.Basics.{and-left, and-right}
 use Rattle.script_core.specs.declared.parts.Kind.{Kind}
 use Rattle.script_core.specs.declared.parts.Kind.TheVariants.{Factory, BootHost, Rest, Wait, Call, Wire}
 use Rattle.script_core.specs.declared.parts.Section.{Section}
-use Rattle.script_core.specs.Hints.{same_kind, is_wire, is_empty, call_kinds, kinds, with_kind, without, are_of}
+use Rattle.script_core.specs.Hints.{same_kind, call_kinds, kinds, with_kind, without, are_of}
 use Rattle.script_core.specs.Forms.{is_among, stands_in, are_apart}
 
 -- TWO KINDS
@@ -99,7 +99,7 @@ pub record Without (k : Kind) (ks rest : List Kind) : Type 0 where
   pub count : length ks ≡ suc (length rest)
   pub among : (x : Kind) → is_among x rest ≡ (if same_kind k x then false else is_among x ks)
 
-not-true : (b : Bool) → not b ≡ true → b ≡ false
+pub not-true : (b : Bool) → not b ≡ true → b ≡ false
 not-true true e = cc
 not-true false e = refl
 

@@ -1,5 +1,5 @@
 -- A script of the form, taken apart: its sections with their hints, the items of `wire`, and its segments in the order of the text.
-use Rattle.std.proofs.Common.{◌≡◌, ◌∙◌, ℕ, zero, suc, ◌+◌, ◌-◌, ◌<◌, ◌≤◌, ◌==◌, ◌&&◌, not, nat_le, Option, Some, None, List, [], ◌∷◌, ◌++◌, length, slice_get, Bool, true, false, if◌then◌else◌, refl, ap, sym, subst, eqb-true, arith}
+use Rattle.std.proofs.Common.{◌≡◌, ◌∙◌, ℕ, suc, ◌+◌, ◌-◌, ◌<◌, ◌≤◌, ◌==◌, not, nat_le, Some, List, [], ◌∷◌, ◌++◌, length, Bool, true, false, if◌then◌else◌, refl, ap, sym, subst, eqb-true, arith}
 use Rattle.knox_theory.proofs.Basics.{and-left, and-right}
 use Rattle.knox_lang.specs.declared.expr.Expr.{Expr}
 use Rattle.script_core.specs.declared.parts.HintNo.{HintNo}
@@ -8,13 +8,12 @@ use Rattle.script_core.specs.declared.parts.Act.TheVariants as act
 use Rattle.script_core.specs.declared.parts.Item.{Item}
 use Rattle.script_core.specs.declared.parts.Kind.{Kind}
 use Rattle.script_core.specs.declared.parts.Kind.TheVariants.{Factory, BootHost, Rest, Wait, Call, Wire}
-use Rattle.script_core.specs.declared.parts.Root.{Root}
 use Rattle.script_core.specs.declared.parts.Root.TheVariants.{OfKind, OfCut}
 use Rattle.script_core.specs.declared.parts.Section.{Section}
 use Rattle.script_core.specs.declared.parts.ScriptParts.{ScriptParts}
 use Rattle.script_core.specs.Hints.{same_kind, is_wire, is_cut, is_tick, leads_to, is_loop, is_empty, items_fit, are_numbered, kinds, are_of, script_fits, ops_of, hint_of_kind, items_of_kind, wire_items, hint_count, roots_of, roots}
-use Rattle.script_core.specs.Forms.{is_among, stands_in, are_apart, own_hints, first_hint, last_item_hint, last_hint, segment_number}
-use Rattle.script_core.proofs.EachKind.{same-is, same-self, same-of, kinds-once, kind-count, of-kinds, all-there}
+use Rattle.script_core.specs.Forms.{is_among, stands_in, are_apart, own_hints, last_item_hint, last_hint, segment_number}
+use Rattle.script_core.proofs.EachKind.{same-is, same-self, same-of, not-true, kinds-once, of-kinds, all-there}
 
 -- THE ITEMS of a `wire` with hint h: a cut with this condition, a step of one tick, and a subsume of the cut
 abbrev pub numbered : ℕ → HintNo
@@ -145,10 +144,6 @@ tells-on all s ss apart tells k there =
     by_test : (b : Bool) → same_kind k s.kind ≡ b → b ≡ false
     by_test true e = let both : true ≡ false = sym there ∙ (ap (λ z. stands_in z ss) (same-is k s.kind e) ∙ apart) in both
     by_test false e = refl
-
-pub not-true : (b : Bool) → not b ≡ true → b ≡ false
-not-true true e = cc
-not-true false e = refl
 
 pub are-all : (all : List Section) (ks : List Kind) (h : ℕ) (ss : List Section) → Tells all ss → are_apart ks ss ≡ true → are_numbered h ss ≡ true → Are all h ss
 are-all all ks h [] tells apart e = tt

@@ -1,9 +1,9 @@
 -- The segments of a script in the order of the text, and what is read off them: courses, bits, hints, and the segment of a hint.
-use Rattle.std.proofs.Common.{◌≡◌, ◌∙◌, ℕ, zero, suc, ◌+◌, ◌-◌, ◌<◌, ◌≤◌, ◌==◌, ◌&&◌, not, nat_le, nat_lt, Option, Some, None, List, [], ◌∷◌, ◌++◌, length, slice_get, Bool, true, false, if◌then◌else◌, refl, ap, sym, subst, eqb-true, arith}
+use Rattle.std.proofs.Common.{◌≡◌, ◌∙◌, ℕ, zero, suc, ◌+◌, ◌-◌, ◌<◌, ◌≤◌, ◌==◌, not, nat_le, Option, Some, List, [], ◌∷◌, ◌++◌, length, slice_get, Bool, true, false, if◌then◌else◌, refl, ap, sym, subst, eqb-true, arith}
 use Rattle.knox_theory.specs.Design.{Design}
 use Rattle.knox_theory.specs.Script.{State, Place, WireItems, Step, Cut, Subsume, HostSections, Script, is_paced, HasLocations, HasCallLocations, IsScript}
 use Rattle.knox_theory.specs.WireSegments.{wire_course, subsumes, passed, find, never, wire_places, ToCut, Absent}
-use Rattle.knox_theory.specs.Segments.{Segment, factory_segment, boot_host_segment, rest_segment, wait_segment, call_segment, call_segments, wire_segment, cut_segment, cut_segments, host_segments, all_segments, item_hints, in_order, segments}
+use Rattle.knox_theory.specs.Segments.{Segment, factory_segment, boot_host_segment, rest_segment, wait_segment, call_segment, call_segments, wire_segment, cut_segment, cut_segments, host_segments, all_segments, item_hints, in_order}
 use Rattle.knox_theory.specs.Closed.{all_hints, all_differ, is_hint_of, segment_of}
 use Rattle.knox_theory.proofs.Basics.{and-left, and-right}
 use Rattle.knox_circuit.specs.Circuit.{Circuit}
@@ -24,9 +24,9 @@ use Rattle.script_core.specs.Hints.{seen, holds, items_of, host_of, script_of, i
 use Rattle.script_core.specs.Forms.{is_among, stands_in, are_apart, own_hints, first_hint, segment_number}
 use Rattle.script_core.specs.Reached.{root_hint}
 use Rattle.script_core.specs.Runs.{segments_of, hint_at}
-use Rattle.script_core.proofs.EachKind.{same-of}
+use Rattle.script_core.proofs.EachKind.{same-of, not-true}
 use Rattle.script_core.proofs.Ordered.{Rising, blocks, along, in-text-order}
-use Rattle.script_core.proofs.Formed.{Formed, Are, Numbered, Side, OnWire, OnHost, side, behind, host-not, not-true, next-count, wire-in}
+use Rattle.script_core.proofs.Formed.{Formed, Are, Side, OnWire, OnHost, side, host-not, next-count, wire-in}
 
 -- what a cut's condition says of a state
 abbrev pub cut_holds : List Fun → Expr → State → Bool

@@ -1,5 +1,5 @@
 -- Lists of segments in order of their hint numbers: blocks of segments along sections that stand in any order are in order where their hints rise.
-use Rattle.std.proofs.Common.{◌≡◌, ◌∙◌, ℕ, ◌<◌, nat_le, Option, Some, None, List, [], ◌∷◌, ◌++◌, Bool, true, false, if◌then◌else◌, refl, ap, sym, subst, append_assoc, arith}
+use Rattle.std.proofs.Common.{◌≡◌, ◌∙◌, ℕ, ◌<◌, nat_le, Option, Some, None, List, [], ◌∷◌, ◌++◌, true, false, if◌then◌else◌, refl, ap, sym, subst, append_assoc, arith}
 use Rattle.knox_theory.specs.Segments.{Segment, insert, in_order}
 use Rattle.knox_theory.proofs.Listed.{Each, each-order, order-each}
 use Rattle.script_core.specs.declared.parts.Kind.{Kind}

@@ -1,7 +1,6 @@
 -- The segment with a number, by the root that it begins with: its course, its bits and its hint.
-use Rattle.std.proofs.Common.{◌≡◌, ◌∙◌, ℕ, zero, suc, ◌+◌, ◌<◌, ◌==◌, ◌&&◌, not, nat_lt, Option, Some, None, List, [], ◌∷◌, ◌++◌, length, slice_get, Bool, true, false, if◌then◌else◌, refl, ap, sym, arith}
+use Rattle.std.proofs.Common.{◌≡◌, ◌∙◌, ℕ, zero, suc, ◌+◌, ◌<◌, ◌==◌, not, nat_lt, Some, None, List, [], ◌∷◌, ◌++◌, length, slice_get, true, false, if◌then◌else◌, refl, ap, sym, arith}
 use Rattle.knox_theory.specs.Script.{Place}
-use Rattle.knox_theory.specs.WireSegments.{cut_course}
 use Rattle.knox_theory.specs.Segments.{wire_bits, cut_bits}
 use Rattle.knox_theory.proofs.Basics.{and-left, and-right}
 use Rattle.knox_lang.specs.declared.expr.Expr.{Expr}
@@ -12,10 +11,10 @@ use Rattle.script_core.specs.declared.parts.Root.{Root}
 use Rattle.script_core.specs.declared.parts.Root.TheVariants.{OfKind, OfCut}
 use Rattle.script_core.specs.declared.parts.Section.{Section}
 use Rattle.script_core.specs.declared.parts.ScriptParts.{ScriptParts}
-use Rattle.script_core.specs.Hints.{items_of, script_of, kinds, call_kinds, script_fits, hint_of_kind, wire_items, first_cut, behind_cut, cut_named, roots_of, roots, root_at}
+use Rattle.script_core.specs.Hints.{items_of, script_of, kinds, script_fits, hint_of_kind, wire_items, first_cut, behind_cut, cut_named, roots_of, roots, root_at}
 use Rattle.script_core.specs.Forms.{is_among, stands_in, are_apart}
 use Rattle.script_core.specs.Reached.{design, script, passes, cut_run, behind_course, root_course, root_bits, root_hint}
-use Rattle.script_core.specs.Runs.{segments_of, course_of, course_at, bits_at, hint_at}
+use Rattle.script_core.specs.Runs.{segments_of, course_at, bits_at, hint_at}
 use Rattle.script_core.proofs.EachKind.{call-among}
 use Rattle.script_core.proofs.Formed.{Formed, formed, behind, Side, OnWire, OnHost, side, host-roots}
 use Rattle.script_core.proofs.Listing as listing

@@ -4,7 +4,6 @@ use Rattle.knox_words.specs.Lists.{total}
 use Rattle.knox_theory.specs.Segments.{widest}
 use Rattle.knox_circuit.specs.Circuit.{cells_of, state_widths, input_widths}
 use Rattle.knox_circuit.specs.Power.{persistent_widths, noise_widths, states_of}
-use Rattle.knox_lang.specs.declared.parts.Fun.{Fun}
 use Rattle.knox_lang.specs.WellFormed.{word_widths}
 use Rattle.emu_machine.specs.declared.device.Device.{Device}
 use Rattle.device_design.specs.Meaning.{design_of, device_of, head_args}

@@ -1,5 +1,5 @@
 -- The form of scripts as the code tests it, and the numbers that it counts. The project's own; no public clause cites it.
-use Rattle.std.specs.Prelude.{ℕ, ◌+◌, ◌-◌, nat_le, ◌&&◌, not, List, [], ◌∷◌, Option, Some, None, Bool, true, false, if◌then◌else◌}
+use Rattle.std.specs.Prelude.{ℕ, ◌+◌, ◌-◌, nat_le, ◌&&◌, not, List, [], ◌∷◌, Bool, true, false, if◌then◌else◌}
 use Rattle.script_core.specs.declared.parts.Kind.{Kind}
 use Rattle.script_core.specs.declared.parts.Item.{Item}
 use Rattle.script_core.specs.declared.parts.Section.{Section}

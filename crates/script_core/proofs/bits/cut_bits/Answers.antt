@@ -1,4 +1,4 @@
-use Rattle.std.proofs.Common.{◌≡◌, ◌∙◌, ap}
+use Rattle.std.proofs.Common.{◌∙◌, ap}
 use Rattle.knox_words.specs.Lists.{total}
 use Rattle.knox_circuit.specs.Circuit.{input_widths}
 use Rattle.script_core.specs.Widths.{items_bits}

@@ -1,4 +1,4 @@
-use Rattle.std.proofs.Common.{◌≡◌, ◌<◌, ◌≤◌, refl, arith}
+use Rattle.std.proofs.Common.{refl}
 use Rattle.script_core.proofs.EachKind.{too-few, other-count, right-count}
 use Rattle.script_core.proofs.form.are_of.Goals as goal
 

@@ -1,4 +1,4 @@
-use Rattle.std.proofs.Common.{◌≡◌, ◌∙◌, nat_lt, sym, ap}
+use Rattle.std.proofs.Common.{◌∙◌, nat_lt, sym, ap}
 use Rattle.script_core.specs.Hints.{kinds}
 use Rattle.script_core.specs.Forms.{is_among}
 use Rattle.script_core.proofs.EachKind.{call-among}

@@ -1,4 +1,4 @@
-use Rattle.std.proofs.Common.{◌≡◌, ◌∙◌, Some, ap, sym}
+use Rattle.std.proofs.Common.{◌∙◌, Some, ap, sym}
 use Rattle.script_core.specs.Forms.{first_hint}
 use Rattle.script_core.specs.Reached.{root_hint}
 use Rattle.script_core.proofs.Formed.{formed-for}

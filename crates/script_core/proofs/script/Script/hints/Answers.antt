@@ -1,6 +1,5 @@
-use Rattle.std.proofs.Common.{◌≡◌, ◌∙◌, ap, sym}
+use Rattle.std.proofs.Common.{◌∙◌, ap, sym}
 use Rattle.script_core.specs.declared.parts.ScriptParts.{ScriptParts}
-use Rattle.script_core.specs.Hints.{hint_count}
 use Rattle.script_core.specs.Forms.{last_hint}
 use Rattle.script_core.proofs.Formed.{formed-for, count-of-hints}
 use Rattle.script_core.proofs.Listing.{all-hints-count}

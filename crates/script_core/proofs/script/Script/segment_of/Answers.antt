@@ -1,6 +1,5 @@
-use Rattle.std.proofs.Common.{◌≡◌, ◌∙◌, ◌≤◌, ◌<◌, ap, sym, subst, length, slice_get}
-use Rattle.script_core.specs.declared.parts.Kind.TheVariants.{Wire}
-use Rattle.script_core.specs.Hints.{hint_of_kind, roots}
+use Rattle.std.proofs.Common.{◌∙◌, ◌≤◌, ◌<◌, ap, sym, subst, length, slice_get}
+use Rattle.script_core.specs.Hints.{roots}
 use Rattle.script_core.specs.Forms.{segment_number}
 use Rattle.script_core.specs.Runs.{segments_of}
 use Rattle.script_core.proofs.Formed.{formed-for, wire-counts, number-below}

@@ -1,4 +1,4 @@
-use Rattle.std.proofs.Common.{◌≡◌, ◌∙◌, sym, arith}
+use Rattle.std.proofs.Common.{◌∙◌, sym, arith}
 use Rattle.script_core.proofs.Formed.{formed-for, segments-counted}
 use Rattle.script_core.proofs.Listing.{segment-count}
 use Rattle.script_core.proofs.script.Script.segments.Goals as goal
