@@ -3,11 +3,11 @@ use Rattle.std.proofs.Common.{◌≡◌, ◌∙◌, ℕ, ◌<◌, ◌&&◌, List
 use Rattle.knox_words.specs.Bits.{Bits}
 use Rattle.knox_words.specs.Lists.{Words, fit}
 use Rattle.knox_theory.specs.Device as theory
-use Rattle.knox_theory.specs.Design.{Config, finish}
-use Rattle.knox_theory.specs.Script.{CallPlace, Close, State}
+use Rattle.knox_theory.specs.Design.{finish}
+use Rattle.knox_theory.specs.Script.{CallPlace, Close}
 use Rattle.knox_theory.specs.Course.{Course, Check, Done, takes}
 use Rattle.knox_theory.specs.HostSegments.{is_reply, is_concluded, call_items}
-use Rattle.knox_theory.specs.WireSegments.{enters, is_refined}
+use Rattle.knox_theory.specs.WireSegments.{enters}
 use Rattle.knox_theory.specs.Lawful.{IsDesign}
 use Rattle.knox_circuit.specs.Circuit.{cells_of, state_widths, state_after_tick}
 use Rattle.knox_circuit.specs.Power.{states_of, noise_widths, factory_state, persistent_words, spread_words, state_after_power}
@@ -19,11 +19,10 @@ use Rattle.driver_machine.specs.declared.reply.Reply.{Reply}
 use Rattle.driver_machine.specs.Configs.{meant, said}
 use Rattle.emu_machine.specs.declared.device.Device.{Device}
 use Rattle.device_design.specs.Meaning.{head_args, design_of, device_of}
-use Rattle.script_core.specs.declared.parts.Kind.{Kind}
 use Rattle.script_core.specs.declared.parts.Kind.TheVariants.{Factory, BootHost, Rest, Wait, Call}
 use Rattle.script_core.specs.declared.parts.ScriptParts.{ScriptParts}
 use Rattle.script_core.specs.Hints.{seen, holds, refines, hint_of_kind, script_of}
-use Rattle.script_core.specs.Reached.{design, script, host, kind_course, powered, idling, concludes}
+use Rattle.script_core.specs.Reached.{design, host, kind_course, powered, idling, concludes}
 use Rattle.script_core.specs.Runs.{Reach, ToEnd, ToVacuous, ToFailure, reach}
 use Rattle.script_core.proofs.Reaching.{Took, DoesNotTake, TookThree, DoesNotTakeThree}
 

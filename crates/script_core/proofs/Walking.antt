@@ -4,7 +4,7 @@ use Rattle.knox_words.specs.Lists.{Words}
 use Rattle.knox_theory.specs.Design.{Design}
 use Rattle.knox_theory.specs.Script.{State, Place, Script}
 use Rattle.knox_theory.specs.Course.{Course, takes}
-use Rattle.knox_theory.specs.WireSegments.{Target, ToCut, noted, ticked, same_outs, is_refined, steps, course, enters, attached, find, passed, never, wire_places, wire_course}
+use Rattle.knox_theory.specs.WireSegments.{Target, ToCut, noted, ticked, same_outs, is_refined, steps, course, enters, find, passed, never, wire_places, wire_course}
 use Rattle.knox_circuit.specs.Circuit.{cells_of, state_widths, input_widths}
 use Rattle.knox_circuit.specs.Power.{states_of, noise_widths, persistent_widths, spread_words, state_after_power}
 use Rattle.knox_lang.specs.declared.expr.Expr.{Expr}

@@ -3,7 +3,7 @@ ghost use Rattle.std.specs.Prelude.{◌≡◌, ℕ, suc, List, [], true, IfOk, O
 ghost use Rattle.knox_words.specs.Lists.{fit};
 ghost use Rattle.knox_theory.specs.WireSegments.{same_outs, ticked, is_refined};
 ghost use Rattle.knox_circuit.specs.Circuit.{cells_of, state_widths, input_widths};
-ghost use Rattle.knox_circuit.specs.Power.{persistent_words, spread_words, states_of, noise_widths, state_after_power};
+ghost use Rattle.knox_circuit.specs.Power.{spread_words, states_of, noise_widths, state_after_power};
 ghost use Rattle.script_core.specs.declared.parts.Item.{Item};
 ghost use Rattle.script_core.specs.declared.parts.ScriptParts.{ScriptParts};
 ghost use Rattle.script_core.specs.Hints.{refines, wire_items, holds, seen};

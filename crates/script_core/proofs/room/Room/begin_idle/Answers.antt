@@ -1,4 +1,4 @@
-use Rattle.std.proofs.Common.{◌∙◌, ap, sym, subst, true, false, refl}
+use Rattle.std.proofs.Common.{◌∙◌, ap, sym, subst, false}
 use Rattle.knox_words.specs.Lists.{fit}
 use Rattle.knox_theory.specs.Script.{State}
 use Rattle.knox_circuit.specs.Circuit.{cells_of, state_widths}

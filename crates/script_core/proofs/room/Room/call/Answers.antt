@@ -1,5 +1,4 @@
 use Rattle.std.proofs.Common.{◌≡◌, ◌∙◌, ap, slice_get, subst, true}
-use Rattle.knox_lang.specs.declared.parts.OpHead.{OpHead}
 use Rattle.knox_words.specs.Lists.{fit}
 use Rattle.device_design.specs.Meaning.{head_args}
 use Rattle.script_core.specs.declared.run.Left.{Left}

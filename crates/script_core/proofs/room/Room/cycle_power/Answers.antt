@@ -1,4 +1,4 @@
-use Rattle.std.proofs.Common.{◌≡◌, ◌∙◌, ap, ℕ, length, true, subst, sym, List, Bool}
+use Rattle.std.proofs.Common.{◌∙◌, ap, length, List, Bool}
 use Rattle.knox_words.specs.Lists.{fit}
 use Rattle.knox_circuit.specs.Circuit.{cells_of, state_widths}
 use Rattle.knox_circuit.specs.Power.{states_of, noise_widths}

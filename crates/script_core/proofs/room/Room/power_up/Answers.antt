@@ -1,5 +1,5 @@
-use Rattle.std.proofs.Common.{◌∙◌, ap, sym, subst, true, false}
-use Rattle.knox_words.specs.Lists.{Words, fit}
+use Rattle.std.proofs.Common.{◌∙◌, ap, sym, subst, false}
+use Rattle.knox_words.specs.Lists.{fit}
 use Rattle.knox_theory.specs.Script.{State}
 use Rattle.knox_circuit.specs.Circuit.{cells_of, state_widths}
 use Rattle.knox_circuit.specs.Power.{states_of, noise_widths, spread_words, state_after_power}
