@@ -211,12 +211,7 @@ const LACKING: [Edit; 8] = [
     (Which::H, b"(factory)", b"", b"text H 9:1 Missing\n"),
     (Which::H, b"(wait)\n", b"", b"text H 8:1 Missing\n"),
     (Which::H, b"(call check)\n", b"", b"text H 8:12 Missing\n"),
-    (
-        Which::H,
-        SMALL.h,
-        b"(refine #b1)",
-        b"text H 1:13 Missing\n",
-    ),
+    (Which::H, SMALL.h, b"(refine #b1)", b"text H 1:13 Missing\n"),
 ];
 
 #[test]
@@ -232,12 +227,7 @@ fn texts_that_lack_a_form(rt: HostRuntime) -> Result<(), Fail> {
 
 /// A driver or hints that lack a form and have another fault are in no form that is told.
 const FAULTY: [Edit; 5] = [
-    (
-        Which::D,
-        DRIVER,
-        b"(driver (persistent zz))",
-        b"not yet\n",
-    ),
+    (Which::D, DRIVER, b"(driver (persistent zz))", b"not yet\n"),
     (
         Which::D,
         DRIVER,

@@ -176,8 +176,7 @@ fn script(alloc: Global, dev: &Device, cut: &[u8]) -> Result<Script, Fail> {
 }
 
 /// The end of the run of a row, in the segment of `wire` or in that of the cut.
-fn end_of(alloc: Global, row: &Row, segment: SegmentNo) -> Result<ScriptEnd, Fail>
-{
+fn end_of(alloc: Global, row: &Row, segment: SegmentNo) -> Result<ScriptEnd, Fail> {
     let (last, cut, pairs, _) = row;
     let dev = store(alloc, last)?;
     let script = script(alloc, &dev, cut)?;
