@@ -1,5 +1,6 @@
 -- What a text means is one thing, and what it means is read unless memory runs out.
 use Rattle.std.proofs.Common.{◌≡◌, ◌≢◌, ◌⊎◌, inl, inr, ℕ, List, [], ◌∷◌, Option, Some, None, Bool, true, false, Result, Ok, Err, refl, sym, ◌∙◌, ap, subst}
+use Rattle.std.specs.Result.{IfErr}
 use Rattle.knox_text.specs.declared.place.Place.{Place}
 use Rattle.knox_text.specs.Places.{start_of, end_of}
 use Rattle.knox_sexpr.specs.declared.tree.Tree.{Tree}
@@ -292,8 +293,8 @@ script-lacks c s d e h f x y z w one m n =
 
 -- a refusal explained by what is known of each kind of text
 not-yet : (f g : VerifyFault) → f ≡ NotYet → (f ≡ Memory) ⊎ (f ≡ g) → (g ≡ NotYet → ⊥) → ⊥
-not-yet f g is (inl e) no = let bad : NotYet ≡ Memory = sym is ∙ e in absurd cc
-not-yet f g is (inr e) no = no (sym e ∙ is)
+not-yet f g is (inl e) other = let bad : NotYet ≡ Memory = sym is ∙ e in absurd cc
+not-yet f g is (inr e) other = other (sym e ∙ is)
 
 pub explained : (c s d e h : Bytes) (f : VerifyFault) → ((p : Parts) → MeansParts c s d e h p → f ≡ Memory) → ((g : LangFault) → LacksCall c s d g → (f ≡ Memory) ⊎ (f ≡ Text D (Lang g))) →
     ((g : ScriptFault) → LacksForm c s d e h g → (f ≡ Memory) ⊎ (f ≡ Text H (Script g))) → Names (LacksCall c s d) (LacksForm c s d e h) f → Explains c s d e h f
@@ -306,3 +307,9 @@ explained c s d e h Memory only call form names = tt
 explained c s d e h (Text D (Lang g)) only call form names = names
 explained c s d e h (Text H (Script g)) only call form names = names
 explained c s d e h (Text letter why) only call form names = absurd names
+
+pub explained-result : {V : Type 0} (c s d e h : Bytes) (r : Result V VerifyFault) → ((p : Parts) → MeansParts c s d e h p → IfErr r (λ f. f ≡ Memory)) →
+    ((g : LangFault) → LacksCall c s d g → IfErr r (λ f. (f ≡ Memory) ⊎ (f ≡ Text D (Lang g)))) → ((g : ScriptFault) → LacksForm c s d e h g → IfErr r (λ f. (f ≡ Memory) ⊎ (f ≡ Text H (Script g)))) →
+    IfErr r (Names (LacksCall c s d) (LacksForm c s d e h)) → IfErr r (Explains c s d e h)
+explained-result c s d e h (Ok v) only call form names = tt
+explained-result c s d e h (Err f) only call form names = explained c s d e h f only call form names

@@ -17,7 +17,7 @@ ghost use Rattle.script_read.specs.Scripts.{script_text};
 ghost use Rattle.expr_read.specs.declared.faults.LangFault.{LangFault};
 ghost use Rattle.script_read.specs.declared.fault.ScriptFault.{ScriptFault};
 ghost use Rattle.knox_verify.specs.declared.verdict.Letter.TheVariants.{D, H};
-ghost use Rattle.knox_verify.specs.declared.verdict.TextWhy.TheVariants.{Lang, Script};
+ghost use Rattle.knox_verify.specs.declared.verdict.TextWhy.TheVariants as why;
 ghost use Rattle.knox_verify.specs.declared.verdict.VerifyFault.TheVariants.{Text, Memory};
 ghost use Rattle.knox_verify.specs.Meanings.{Reads, MeansDevice, Refuses, CallMissing, FormMissing, LacksCall};
 ghost use Rattle.knox_verify.specs.Verdicts.{NamesDriver, NamesScript};
@@ -79,7 +79,7 @@ fn driver_of(
     requires { length d.now ≤ 67108864 }
     ensures meant { IfOk result (λ driver. Reads (driver_text circuit.now spec.now) d.now driver) }
     ensures only { (p : DriverParts) → Reads (driver_text circuit.now spec.now) d.now p → IfErr result (λ f. f ≡ Memory) }
-    ensures lacks { (g : LangFault) → Refuses CallMissing (driver_text circuit.now spec.now) d.now g → IfErr result (λ f. (f ≡ Memory) ⊎ (f ≡ Text D (Lang g))) }
+    ensures lacks { (g : LangFault) → Refuses CallMissing (driver_text circuit.now spec.now) d.now g → IfErr result (λ f. (f ≡ Memory) ⊎ (f ≡ Text D (why.Lang g))) }
     ensures fault { IfErr result (NamesDriver (Refuses CallMissing (driver_text circuit.now spec.now) d.now)) }
 {
     knox_sexpr::one_meaning();
@@ -137,7 +137,7 @@ pub fn device_of(
     requires e { length e.now ≤ 67108864 }
     ensures meant { IfOk result (λ dev. MeansDevice c.now s.now d.now e.now dev.circuit dev.spec dev.driver dev.emulator) }
     ensures only { (circuit : Circuit) (spec : SpecParts) (driver : DriverParts) (emulator : EmuParts) → MeansDevice c.now s.now d.now e.now circuit spec driver emulator → IfErr result (λ f. f ≡ Memory) }
-    ensures lacks { (g : LangFault) → LacksCall c.now s.now d.now g → IfErr result (λ f. (f ≡ Memory) ⊎ (f ≡ Text D (Lang g))) }
+    ensures lacks { (g : LangFault) → LacksCall c.now s.now d.now g → IfErr result (λ f. (f ≡ Memory) ⊎ (f ≡ Text D (why.Lang g))) }
     ensures fault { IfErr result (NamesDriver (LacksCall c.now s.now d.now)) }
 {
     knox_sexpr::one_meaning();
@@ -157,7 +157,7 @@ pub(crate) fn script_of(alloc: Global, dev: &Device, h: &[u8]) -> Result<Script,
     requires { length h.now ≤ 67108864 }
     ensures meant { IfOk result (λ script. Reads (script_text dev.now.circuit dev.now.spec dev.now.driver dev.now.emulator) h.now script) }
     ensures only { (p : ScriptParts) → Reads (script_text dev.now.circuit dev.now.spec dev.now.driver dev.now.emulator) h.now p → IfErr result (λ f. f ≡ Memory) }
-    ensures lacks { (g : ScriptFault) → Refuses FormMissing (script_text dev.now.circuit dev.now.spec dev.now.driver dev.now.emulator) h.now g → IfErr result (λ f. (f ≡ Memory) ⊎ (f ≡ Text H (Script g))) }
+    ensures lacks { (g : ScriptFault) → Refuses FormMissing (script_text dev.now.circuit dev.now.spec dev.now.driver dev.now.emulator) h.now g → IfErr result (λ f. (f ≡ Memory) ⊎ (f ≡ Text H (why.Script g))) }
     ensures fault { IfErr result (NamesScript (Refuses FormMissing (script_text dev.now.circuit dev.now.spec dev.now.driver dev.now.emulator) h.now)) }
 {
     knox_sexpr::one_meaning();

@@ -4,7 +4,7 @@ ghost use Rattle.expr_read.specs.declared.faults.LangFault.{LangFault};
 ghost use Rattle.script_read.specs.declared.fault.ScriptFault.{ScriptFault};
 ghost use Rattle.script_core.specs.Hints.{ops_of};
 ghost use Rattle.knox_verify.specs.declared.verdict.Letter.TheVariants.{D, H};
-ghost use Rattle.knox_verify.specs.declared.verdict.TextWhy.TheVariants.{Lang, Script};
+ghost use Rattle.knox_verify.specs.declared.verdict.TextWhy.TheVariants as why;
 ghost use Rattle.knox_verify.specs.declared.verdict.VerifyFault.TheVariants.{Text, Memory};
 ghost use Rattle.knox_verify.specs.Verdicts.{first_long, RefusesLong, Judges, Decided, Explains, Names};
 ghost use Rattle.knox_verify.specs.Judgements.{Parts, parts_of};
@@ -51,8 +51,8 @@ fn verify_short(
     requires h { length h.now ≤ 67108864 }
     ensures judged { IfOk result (λ v. Judges v c.now s.now d.now e.now h.now) }
     ensures only { (p : Parts) → Means c.now s.now d.now e.now h.now p → IfErr result (λ f. f ≡ Memory) }
-    ensures call { (g : LangFault) → LacksCall c.now s.now d.now g → IfErr result (λ f. (f ≡ Memory) ⊎ (f ≡ Text D (Lang g))) }
-    ensures form { (g : ScriptFault) → LacksForm c.now s.now d.now e.now h.now g → IfErr result (λ f. (f ≡ Memory) ⊎ (f ≡ Text H (Script g))) }
+    ensures call { (g : LangFault) → LacksCall c.now s.now d.now g → IfErr result (λ f. (f ≡ Memory) ⊎ (f ≡ Text D (why.Lang g))) }
+    ensures form { (g : ScriptFault) → LacksForm c.now s.now d.now e.now h.now g → IfErr result (λ f. (f ≡ Memory) ⊎ (f ≡ Text H (why.Script g))) }
     ensures fault { IfErr result (Names (LacksCall c.now s.now d.now) (LacksForm c.now s.now d.now e.now h.now)) }
 {
     knox_sexpr::one_meaning();

@@ -1,5 +1,6 @@
-use Rattle.std.proofs.Common.{rules, refl}
-use Rattle.knox_verify.proofs.Meant.{not-both, driver-read, emulator-read, read-fit}
+use Rattle.std.proofs.Common.{rules, refl, inl}
+use Rattle.knox_verify.specs.Meanings.{CallMissing}
+use Rattle.knox_verify.proofs.Meant.{not-both, driver-read, emulator-read, read-fit, driver-lacks, reads-refuses}
 use Rattle.knox_verify.proofs.meaning.device_of.Goals as goal
 
 pub returns-in_err-spec-clause-only : goal.returns-in_err-spec-clause-only
@@ -23,3 +24,13 @@ returns-in-None-clause-only c circuit spec driver emulator m =
     let fit = read-fit _ _ _ _ circuit spec driver emulator _ _ _ _ c.one_meaning.ensures.one m c.in_ok-circuit.ensures.meant c.in_ok-spec.ensures.meant
     c.in_ok-driver.ensures.meant c.in_ok-emulator.ensures.meant in
     absurd (not-both _ (c.in-None.ensures.some.1 fit) refl)
+
+pub returns-in_err-spec-clause-lacks : goal.returns-in_err-spec-clause-lacks
+returns-in_err-spec-clause-lacks c g l =
+    let said = c.in_err-spec.ensures.only l.spec l.spec_read in
+    search (rules, said)
+
+pub returns-in-None-clause-lacks : goal.returns-in-None-clause-lacks
+returns-in-None-clause-lacks c g l =
+    reads-refuses CallMissing _ _ _ g c.one_meaning.ensures.one c.in_ok-driver.ensures.meant
+    (driver-lacks _ _ _ g _ _ c.one_meaning.ensures.one l c.in_ok-circuit.ensures.meant c.in_ok-spec.ensures.meant)

@@ -7,7 +7,7 @@ pub returns-in-Falsified-clause-decided : goal.returns-in-Falsified-clause-decid
 returns-in-Falsified-clause-decided c =
     let dev = c.args.dev.now in
     let p = parts_of dev c.args.sc.now in
-    let count = c.segments-g-end.ensures.all dev.circuit dev.spec dev.driver dev.emulator in
+    let count = c.segments-g-end.ensures.all dev.circuit dev.spec dev.driver dev.emulator c.requires.of in
     falsified-undecided p c.loop-g.g c.in_ok-check.field-0 c.in-Falsified.hint c.in-Falsified.choices
     (subst (λ (n : ℕ). c.loop-g.g < n) (sym count) c.loop-g-test.true) c.loop-g.invariant c.in-Falsified.is c.in_ok-check.ensures
 
@@ -15,12 +15,12 @@ pub returns-in-TooWide-clause-decided : goal.returns-in-TooWide-clause-decided
 returns-in-TooWide-clause-decided c =
     let dev = c.args.dev.now in
     let p = parts_of dev c.args.sc.now in
-    let count = c.segments-g-end.ensures.all dev.circuit dev.spec dev.driver dev.emulator in
+    let count = c.segments-g-end.ensures.all dev.circuit dev.spec dev.driver dev.emulator c.requires.of in
     wide-named p c.loop-g.g c.in_ok-check.field-0 c.in-TooWide.hint c.in-TooWide.bits
     (subst (λ (n : ℕ). c.loop-g.g < n) (sym count) c.loop-g-test.true) c.loop-g.invariant c.in-TooWide.is c.in_ok-check.ensures
 
 pub returns-clause-decided : goal.returns-clause-decided
 returns-clause-decided c =
     let dev = c.args.dev.now in
-    let count = c.segments-g-end.ensures.all dev.circuit dev.spec dev.driver dev.emulator in
+    let count = c.segments-g-end.ensures.all dev.circuit dev.spec dev.driver dev.emulator c.requires.of in
     all-closed (parts_of dev c.args.sc.now) c.loop-g.g (subst (λ (n : ℕ). n ≤ c.loop-g.g) (sym count) c.loop-g-test.false) c.loop-g.invariant
