@@ -1,6 +1,6 @@
 //! Driver texts of the PIN store by the reader of drivers: what it reads, and the first fault of each
 //! text that is one edit away, with its place.
-use crate::devices::{CIRCUIT, SPEC};
+use crate::devices::{CIRCUIT, DRIVER, SPEC};
 use knox_circuit::{BtorFault, Circuit};
 use knox_lang::{DriverProgram, SpecProgram};
 use knox_sexpr::SexprFault;
@@ -9,13 +9,6 @@ use lang_read::{LangFault, LangWhy, read_driver, read_spec};
 use sqlite_items::Items;
 use std::alloc::{AllocError, Global};
 use std::test::Fail;
-
-/// A driver with a body for each operation.
-const DRIVER: &[u8] = b"\
-(driver (persistent secret)\n\
- (call set (in cmd (bv 2 1)) (in data v) (tick) (result #b1))\n\
- (call check (in cmd (bv 2 2)) (in data g) (tick) (result (out ok))))\n\
-";
 
 /// What a reader answered: nothing is wrong, this is wrong at a line and a column, or the text was
 /// never read.
@@ -86,14 +79,17 @@ fn wrong_with(alloc: Global, text: &[u8]) -> Read {
 /// A text, and what is wrong with it.
 pub(crate) type Row = (&'static [u8], Read);
 
-/// Texts without a call, for wires alone.
-const WIRES: [Row; 19] = [
-    (b"(driver)", Read::Fine),
+/// Texts without a call. That one is missing is told where nothing else is wrong.
+const UNCALLED: [Row; 19] = [
+    (b"(driver)", Read::Wrong(LangWhy::Missing, 1, 1)),
     (
         b"(driver (persistent secret @12) (idle (cmd 1) (@9 #xf)))",
-        Read::Fine,
+        Read::Wrong(LangWhy::Missing, 1, 1),
     ),
-    (b"(driver (idle (cmd #b01)))", Read::Fine),
+    (
+        b"(driver (idle (cmd #b01)))",
+        Read::Wrong(LangWhy::Missing, 1, 1),
+    ),
     (b"(driver persistent)", Read::Wrong(LangWhy::Form, 1, 9)),
     (
         b"(driver (persistent secret secret))",
@@ -113,7 +109,7 @@ const WIRES: [Row; 19] = [
     ),
     (
         b"(driver (idle (cmd 3) (@8 3)))",
-        Read::Wrong(LangWhy::Twice, 1, 23),
+        Read::Wrong(LangWhy::Twice, 1, 24),
     ),
     (
         b"(driver (idle (secret 3)))",
@@ -133,10 +129,10 @@ const WIRES: [Row; 19] = [
     (b"(driver) (driver)", Read::Wrong(LangWhy::Form, 1, 10)),
     (b"(emulator)", Read::Wrong(LangWhy::Form, 1, 1)),
     (b"driver (driver)", Read::Wrong(LangWhy::Form, 1, 1)),
-    (b"", Read::Wrong(LangWhy::Missing, 1, 1)),
+    (b"", Read::Wrong(LangWhy::Form, 1, 1)),
 ];
 
-/// One call for each operation, in any order. One that is missing comes first.
+/// One call for each operation, in any order.
 const CALLS: [Row; 18] = [
     (
         b"(driver (call set (result #b1)) (call check (result #b1)))",
@@ -148,19 +144,19 @@ const CALLS: [Row; 18] = [
     ),
     (
         b"(driver (call set (result zz)))",
-        Read::Wrong(LangWhy::Missing, 1, 1),
+        Read::Wrong(LangWhy::UnknownName, 1, 27),
     ),
     (
         b"(driver (persistent zz) (call check (result #b1))) 1",
-        Read::Wrong(LangWhy::Missing, 1, 1),
+        Read::Wrong(LangWhy::UnknownName, 1, 21),
     ),
     (
         b"(driver (call zz (result #b1)))",
-        Read::Wrong(LangWhy::Missing, 1, 1),
+        Read::Wrong(LangWhy::UnknownName, 1, 15),
     ),
     (
         b"(driver (result (call set)) (call check (result #b1)))",
-        Read::Wrong(LangWhy::Missing, 1, 1),
+        Read::Wrong(LangWhy::Form, 1, 9),
     ),
     (
         b"(driver (call set) (call check))",
@@ -180,11 +176,11 @@ const CALLS: [Row; 18] = [
     ),
     (
         b"(driver (call set (result #b1)) (call check (result #b1)) (call set (result zz)))",
-        Read::Wrong(LangWhy::Twice, 1, 59),
+        Read::Wrong(LangWhy::Twice, 1, 65),
     ),
     (
         b"(driver (call set (result #b1)) (call set (result zz)) (call check))",
-        Read::Wrong(LangWhy::Twice, 1, 33),
+        Read::Wrong(LangWhy::Twice, 1, 39),
     ),
     (
         b"(driver (call set (result #b1)) (call set) (call check (result #b1)))",
@@ -331,8 +327,8 @@ fn first_other(alloc: Global, rows: &[Row]) -> Option<usize> {
 }
 
 #[test]
-fn drivers_for_wires(rt: HostRuntime) -> Result<(), Fail> {
-    assert_eq!(rt; first_other(rt.alloc(), &WIRES), None);
+fn drivers_without_calls(rt: HostRuntime) -> Result<(), Fail> {
+    assert_eq!(rt; first_other(rt.alloc(), &UNCALLED), None);
     Ok(())
 }
 

@@ -1,6 +1,6 @@
 //! Emulator texts of a PIN store whose answer is noise at power-on, by the reader of emulators: what it
 //! reads, and the first fault of each other text, with its place.
-use crate::devices::{CIRCUIT, SPEC};
+use crate::devices::{CIRCUIT, DRIVER, SPEC};
 use crate::driver_tests::{END, Read, Row};
 use crate::form_tests::edited;
 use lang_read::{LangWhy, read_driver, read_emulator, read_spec};
@@ -67,7 +67,7 @@ const ROWS: [Row; 17] = [
     ),
     (
         b"(emulator (field ok 1 0) (field pin 4 0) (outputs (ok ok) (@21 ok)))",
-        Read::Wrong(LangWhy::Twice, 1, 59),
+        Read::Wrong(LangWhy::Twice, 1, 60),
     ),
     (
         b"(emulator (field ok 1 0) (field pin 4 0) (tick (assign ok (noise ok))))",
@@ -83,14 +83,13 @@ const ROWS: [Row; 17] = [
 fn read_text(alloc: Global, text: &[u8]) -> Result<(), Read> {
     let noisy = edited(alloc, CIRCUIT, b"13 init 1 12 4\n", b"")?;
     let noisy = edited(alloc, noisy.as_slice(), b"11 init 3 10 5\n", b"")?;
-    let driver = b"(driver (persistent secret))".as_slice();
-    if noisy.len() > 1000 || SPEC.len() > 1000 || driver.len() > 1000 || text.len() > 1000 {
+    if noisy.len() > 1000 || SPEC.len() > 1000 || DRIVER.len() > 1000 || text.len() > 1000 {
         return Err(Read::Never);
     }
     let circuit = btor_read::read_circuit(alloc, noisy.as_slice())?;
     let trees = knox_sexpr::read(alloc, SPEC)?;
     let spec = read_spec(alloc, trees.as_slice(), END)?;
-    let trees = knox_sexpr::read(alloc, driver)?;
+    let trees = knox_sexpr::read(alloc, DRIVER)?;
     let driver = read_driver(alloc, trees.as_slice(), END, &circuit, &spec)?;
     let trees = knox_sexpr::read(alloc, text)?;
     let _emulator = read_emulator(alloc, trees.as_slice(), END, &circuit, &spec, &driver)?;
