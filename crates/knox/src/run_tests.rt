@@ -180,6 +180,10 @@ fn end_of(alloc: Global, row: &Row, segment: SegmentNo) -> Result<ScriptEnd, Fai
     let (last, cut, pairs, _) = row;
     let dev = store(alloc, last)?;
     let script = script(alloc, &dev, cut)?;
+    let sections = script.parts().sections.len();
+    if sections < 5 || sections - 5 != dev.spec.ops().len() {
+        return Err(Fail::new("the script is of the device"));
+    }
     let mut words = Words::new(alloc);
     for pair in *pairs {
         words.push(word_or(pair.0, pair.1))?;

@@ -1,4 +1,4 @@
-use Rattle.std.proofs.Common.{subst, sym}
+use Rattle.std.proofs.Common.{subst}
 use Rattle.std.specs.Result.{MatchResult}
 use Rattle.knox.specs.Reading.{texts_of}
 use Rattle.knox.specs.Checking.{ChecksTexts, UnchecksTexts}

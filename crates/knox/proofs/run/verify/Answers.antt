@@ -1,4 +1,4 @@
-use Rattle.std.proofs.Common.{◌≡◌, sym, subst}
+use Rattle.std.proofs.Common.{subst}
 use Rattle.std.specs.Result.{IfOk, IfErr}
 use Rattle.knox.specs.Reading.{texts_of}
 use Rattle.knox.specs.Runs.{UnjudgesTexts}
