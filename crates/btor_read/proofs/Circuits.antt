@@ -4,7 +4,7 @@ use Rattle.std.proofs.Math.Bool.{and-false}
 use Rattle.std.proofs.lemmas.List.{reverse-append, append-nil}
 use Rattle.knox_text.specs.Lines.{lines}
 use Rattle.knox_text.specs.Tokens.{bare_tokens}
-use Rattle.knox_circuit.specs.declared.line.Line.{Line}
+use Rattle.circuit_lines.specs.declared.line.Line.{Line}
 use Rattle.knox_circuit.specs.Circuit.{Circuit}
 use Rattle.knox_circuit.specs.Form.{is_line}
 use Rattle.knox_circuit.specs.Whole.{is_complete}

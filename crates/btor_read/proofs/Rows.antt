@@ -5,8 +5,8 @@ use Rattle.std.proofs.lemmas.List.{reverse-append, append-nil}
 use Rattle.knox_text.specs.Lines.{begins_with}
 use Rattle.knox_text.specs.Tokens.{token, tokens, bare_tokens}
 use Rattle.knox_text.proofs.TokenLemmas.{bare-more, bare-none}
-use Rattle.knox_circuit.specs.declared.line.Shape.{Shape}
-use Rattle.knox_circuit.specs.declared.line.Line.{Line}
+use Rattle.circuit_lines.specs.declared.line.Shape.{Shape}
+use Rattle.circuit_lines.specs.declared.line.Line.{Line}
 use Rattle.knox_circuit.specs.Form.{last_number, is_shape, is_line}
 use Rattle.btor_read.specs.Grammar.{◌>>=◌, Tokens, uncommented, number_at, shape_at, symbol_of, line_of, row, formed}
 use Rattle.btor_read.specs.Growing.{above, grown}

@@ -9,9 +9,9 @@ use Rattle.knox_words.specs.declared.op.Op2.TheVariants as bin
 use Rattle.knox_text.specs.Lines.{begins_with, lines}
 use Rattle.knox_text.specs.Numbers.{natural, at_most}
 use Rattle.knox_text.specs.Tokens.{bare_tokens}
-use Rattle.knox_circuit.specs.declared.line.Shape.{Shape}
-use Rattle.knox_circuit.specs.declared.line.Shape.TheVariants as shape
-use Rattle.knox_circuit.specs.declared.line.Line.{Line}
+use Rattle.circuit_lines.specs.declared.line.Shape.{Shape}
+use Rattle.circuit_lines.specs.declared.line.Shape.TheVariants as shape
+use Rattle.circuit_lines.specs.declared.line.Line.{Line}
 use Rattle.knox_circuit.specs.Circuit.{Circuit}
 use Rattle.knox_circuit.specs.Form.{is_line}
 use Rattle.knox_circuit.specs.Whole.{is_complete}

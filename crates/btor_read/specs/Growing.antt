@@ -1,6 +1,6 @@
 -- Lines so far, and those of what is left of a text.
 use Rattle.std.specs.Prelude.{ℕ, nat_lt, if◌then◌else◌, List, ◌++◌, reverse, Option, Some, None}
-use Rattle.knox_circuit.specs.declared.line.Line.{Line}
+use Rattle.circuit_lines.specs.declared.line.Line.{Line}
 use Rattle.knox_circuit.specs.Circuit.{Circuit}
 use Rattle.btor_read.specs.Grammar.{◌>>=◌, formed, circuit_among}
 

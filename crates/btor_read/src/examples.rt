@@ -1,6 +1,6 @@
 //! The definition of what a text means, computed on small texts.
 ghost use Rattle.std.specs.Prelude.{◌≡◌, ◌∷◌, [], Some, None, codes, pos};
-ghost use Rattle.knox_circuit.specs.declared.line.Shape.TheVariants.{Bitvec, Zero, Constd, Next};
+ghost use Rattle.circuit_lines.specs.declared.line.Shape.TheVariants.{Bitvec, Zero, Constd, Next};
 ghost use Rattle.btor_read.specs.Examples.{line, size_of};
 ghost use Rattle.btor_read.specs.Grammar.{lines_of};
 

@@ -3,7 +3,7 @@ use Rattle.std.proofs.Common.{◌≡◌, ℕ, ◌==◌, List, [], ◌∷◌, ◌
 use Rattle.std.specs.List.{list_all}
 use Rattle.knox_words.specs.Lists.{Words, fit, are_widths}
 use Rattle.knox_circuit.specs.declared.circuit.Cell.{Cell}
-use Rattle.knox_circuit.specs.States.{size}
+use Rattle.circuit_lines.specs.Nodes.{size}
 use Rattle.knox_circuit.specs.Circuit.{state_widths}
 use Rattle.knox_lang.specs.declared.expr.Space.TheVariants.{Own, Local, Output, Noise, Copy}
 use Rattle.knox_lang.specs.declared.parts.Field.{Field}

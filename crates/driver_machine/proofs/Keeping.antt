@@ -4,7 +4,7 @@ use Rattle.knox_words.specs.Bits.{Bits}
 use Rattle.knox_words.specs.Lists.{Words, fit, fits}
 use Rattle.knox_words.proofs.Lists.{fit-slice_set}
 use Rattle.knox_theory.specs.Design.{Config}
-use Rattle.knox_circuit.specs.declared.line.Line.{Line}
+use Rattle.circuit_lines.specs.declared.line.Line.{Line}
 use Rattle.knox_circuit.specs.Circuit.{cells_of, state_widths, input_widths, output_words, state_after_tick}
 use Rattle.knox_lang.specs.declared.expr.Space.{Space}
 use Rattle.knox_lang.specs.declared.expr.Space.TheVariants.{Own, Arg, Local, Bound, Input, Output, Noise, Spec, Device, Emu, Copy, Taken}

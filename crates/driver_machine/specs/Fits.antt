@@ -4,7 +4,7 @@ use Rattle.std.specs.Prelude.{ℕ, ◌&&◌, List, [], ◌∷◌, length, slice_
 use Rattle.knox_words.specs.Lists.{fit, fits}
 use Rattle.knox_theory.specs.Device.{Reply, Replied, OutOfTurns}
 use Rattle.knox_theory.specs.Design.{Config}
-use Rattle.knox_circuit.specs.declared.line.Line.{Line}
+use Rattle.circuit_lines.specs.declared.line.Line.{Line}
 use Rattle.knox_circuit.specs.Circuit.{cells_of, state_widths, input_widths}
 use Rattle.knox_lang.specs.declared.parts.OpHead.{OpHead}
 use Rattle.knox_lang.specs.declared.parts.Body.{Body}

@@ -7,12 +7,13 @@ use Rattle.knox_words.specs.Bits.{Bits, word_at, ite_value}
 use Rattle.knox_words.specs.Ops.{op1_value, op2_or}
 use Rattle.knox_words.specs.declared.op.Op1.TheVariants.{Not}
 use Rattle.knox_circuit.specs.declared.node.Node.{Node}
-use Rattle.knox_circuit.specs.declared.line.Line.{Line}
-use Rattle.knox_circuit.specs.declared.line.Shape.{Shape}
-use Rattle.knox_circuit.specs.declared.line.Shape.TheVariants as shape
+use Rattle.circuit_lines.specs.declared.line.Line.{Line}
+use Rattle.circuit_lines.specs.declared.line.Shape.{Shape}
+use Rattle.circuit_lines.specs.declared.line.Shape.TheVariants as shape
 use Rattle.knox_circuit.specs.declared.circuit.Cell.{Cell}
 use Rattle.knox_circuit.specs.Meaning.{Value, given, zero_word, operand, word, level, value_of}
-use Rattle.knox_circuit.specs.States.{cell_of, first_of, next_of}
+use Rattle.knox_circuit.specs.States.{cell_of, first_of}
+use Rattle.circuit_lines.specs.Nodes.{next_of}
 use Rattle.knox_circuit.specs.Circuit.{state_value, held_from, held_by, next_words, operand_or_zero}
 use Rattle.knox_circuit.specs.Form.{is_shape, is_line, IsInForm}
 use Rattle.knox_circuit.specs.Resolved.{Lists, no_place, place_of, arg_of, arg_or_zero, arg_word, node_word, node_of, state_node, nodes_of, word_of_node, at_place, output_args, next_args}

@@ -6,14 +6,15 @@ use Rattle.std.proofs.lemmas.List.{append-nil, append_assoc}
 use Rattle.std.proofs.lemmas.List.Folds.{list_all-append}
 use Rattle.knox_words.specs.Bits.{Bits, word_at}
 use Rattle.knox_words.specs.Lists.{fit, fits}
-use Rattle.knox_circuit.specs.declared.line.Line.{Line}
-use Rattle.knox_circuit.specs.declared.line.Shape.TheVariants as shape
+use Rattle.circuit_lines.specs.declared.line.Line.{Line}
+use Rattle.circuit_lines.specs.declared.line.Shape.TheVariants as shape
 use Rattle.knox_circuit.specs.declared.circuit.Cell.{Cell}
 use Rattle.knox_circuit.specs.declared.table.Tables.{Tables}
-use Rattle.knox_circuit.specs.Sorts.{shape_of, sort_width, sort_named, state_sort}
-use Rattle.knox_circuit.specs.Ports.{node_width}
+use Rattle.circuit_lines.specs.Sorts.{shape_of, sort_width, sort_named, state_sort}
+use Rattle.circuit_lines.specs.Nodes.{node_width}
 use Rattle.knox_circuit.specs.Meaning.{given}
-use Rattle.knox_circuit.specs.States.{next_of, size, words_in, first_of, state_cell, if_some, cell_among, cells_among, state_among, states_among}
+use Rattle.knox_circuit.specs.States.{words_in, first_of, state_cell, if_some, cell_among, cells_among, state_among, states_among}
+use Rattle.circuit_lines.specs.Nodes.{next_of, size}
 use Rattle.knox_circuit.specs.Circuit.{cells_of, held_by, values, state_widths, input_widths}
 use Rattle.knox_circuit.specs.Form.{is_width, last_number, IsInForm}
 use Rattle.knox_circuit.specs.Resolved.{state_node, node_word}

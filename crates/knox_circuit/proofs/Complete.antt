@@ -7,10 +7,11 @@ use Rattle.std.proofs.lemmas.List.{map-append, length-reverse}
 use Rattle.std.proofs.lemmas.List.Folds.{list_all-append}
 use Rattle.std.proofs.lemmas.Option.{slice_get_within}
 use Rattle.knox_words.specs.Bits.{Bits}
-use Rattle.knox_circuit.specs.declared.line.Line.{Line}
+use Rattle.circuit_lines.specs.declared.line.Line.{Line}
 use Rattle.knox_circuit.specs.declared.circuit.Cell.{Cell}
-use Rattle.knox_circuit.specs.Sorts.{earlier, state_sort}
-use Rattle.knox_circuit.specs.States.{next_of, init_of, state_among, states_among, bare_among, bares_among, if_none, state_cell, words_in}
+use Rattle.circuit_lines.specs.Sorts.{earlier, state_sort}
+use Rattle.knox_circuit.specs.States.{state_among, states_among, bare_among, bares_among, if_none, state_cell, words_in}
+use Rattle.circuit_lines.specs.Nodes.{next_of, init_of}
 use Rattle.knox_circuit.specs.Resolved.{first_word}
 use Rattle.knox_circuit.specs.Whole.{is_fed}
 use Rattle.knox_circuit.proofs.Earlier.{earlier-more, earlier-next}

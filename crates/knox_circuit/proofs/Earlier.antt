@@ -3,9 +3,9 @@ use Rattle.std.proofs.Common.{◌≡◌, ℕ, zero, suc, ◌+◌, ◌≤◌, ◌
 use Rattle.std.proofs.lemmas.List.{reverse-append, length-reverse}
 use Rattle.std.proofs.lemmas.Bool.Decides.{eqb_tells}
 use Rattle.std.proofs.lemmas.Grind.{common_steps}
-use Rattle.knox_circuit.specs.declared.line.Line.{Line}
-use Rattle.knox_circuit.specs.Sorts.{earlier, shape_of, next_pair, init_pair}
-use Rattle.knox_circuit.specs.States.{named_or, next_of, init_of}
+use Rattle.circuit_lines.specs.declared.line.Line.{Line}
+use Rattle.circuit_lines.specs.Sorts.{earlier, shape_of, next_pair, init_pair}
+use Rattle.circuit_lines.specs.Nodes.{named_or, next_of, init_of}
 use Rattle.knox_circuit.specs.Resolved.{place_of}
 
 pub differs : (a b : ℕ) → (a ≡ b → ⊥) → a == b ≡ false

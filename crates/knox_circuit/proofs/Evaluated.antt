@@ -4,15 +4,16 @@ use Rattle.std.specs.List.{list_all}
 use Rattle.std.proofs.lemmas.List.{length-map, length-reverse}
 use Rattle.std.proofs.lemmas.List.Sums.{sum_by-append}
 use Rattle.knox_words.specs.Bits.{Bits}
-use Rattle.knox_circuit.specs.declared.line.Line.{Line}
+use Rattle.circuit_lines.specs.declared.line.Line.{Line}
 use Rattle.knox_circuit.specs.declared.node.Arg.{Arg}
 use Rattle.knox_circuit.specs.declared.node.Node.{Node}
 use Rattle.knox_circuit.specs.declared.circuit.Cell.{Cell}
 use Rattle.knox_circuit.specs.declared.circuit.Port.{Port}
 use Rattle.knox_circuit.specs.declared.table.Tables.{Tables}
-use Rattle.knox_circuit.specs.Sorts.{output_operand}
+use Rattle.circuit_lines.specs.Sorts.{output_operand}
 use Rattle.knox_circuit.specs.Ports.{outputs_of, output_operands, output_port, one_or_none}
-use Rattle.knox_circuit.specs.States.{size, words_in}
+use Rattle.knox_circuit.specs.States.{words_in}
+use Rattle.circuit_lines.specs.Nodes.{size}
 use Rattle.knox_circuit.specs.Circuit.{cells_of, values, output_words, state_after_tick, state_widths, input_widths}
 use Rattle.knox_circuit.specs.Resolved.{Lists, lists, no_place, arg_word, at_place, nodes_of, output_args, next_args}
 use Rattle.knox_circuit.specs.Whole.{IsTabled}

@@ -15,12 +15,13 @@ use Rattle.knox_words.specs.declared.op.Op2.{Op2}
 use Rattle.knox_words.specs.declared.op.Op2.TheVariants.{Eq, And}
 use Rattle.knox_words.proofs.Lists.{fits-bits}
 use Rattle.knox_words.proofs.Results.{op1_value-fits, op2_or-fits, ite_value-fits}
-use Rattle.knox_circuit.specs.declared.line.Line.{Line}
-use Rattle.knox_circuit.specs.declared.line.Shape.{Shape}
-use Rattle.knox_circuit.specs.declared.line.Shape.TheVariants as shape
+use Rattle.circuit_lines.specs.declared.line.Line.{Line}
+use Rattle.circuit_lines.specs.declared.line.Shape.{Shape}
+use Rattle.circuit_lines.specs.declared.line.Shape.TheVariants as shape
 use Rattle.knox_circuit.specs.declared.circuit.Port.{Port}
-use Rattle.knox_circuit.specs.Sorts.{shape_of, sort_width, sort_named, input_sort, literal}
-use Rattle.knox_circuit.specs.Ports.{width_named, shape_width, node_width, input_port, inputs_of}
+use Rattle.circuit_lines.specs.Sorts.{shape_of, sort_width, sort_named, input_sort, literal}
+use Rattle.knox_circuit.specs.Ports.{input_port, inputs_of}
+use Rattle.circuit_lines.specs.Nodes.{width_named, shape_width, node_width}
 use Rattle.knox_circuit.specs.Meaning.{Value, Given, word, level, value_of}
 use Rattle.knox_circuit.specs.Form.{is_width, plain_width, are_digits, constant_fits, fits_un, fits_bin, is_shape, IsInForm}
 use Rattle.knox_circuit.specs.Resolved.{literal_of}

@@ -4,11 +4,12 @@ use Rattle.std.specs.List.{list_all}
 use Rattle.std.proofs.lemmas.Bool.Decides.{eqb_tells}
 use Rattle.std.proofs.lemmas.List.Folds.{list_all-append}
 use Rattle.knox_words.specs.Bits.{Bits}
-use Rattle.knox_circuit.specs.declared.line.Line.{Line}
-use Rattle.knox_circuit.specs.declared.line.Shape.{Shape}
-use Rattle.knox_circuit.specs.declared.line.Shape.TheVariants as shape
-use Rattle.knox_circuit.specs.Sorts.{shape_of, literal, state_sort, init_pair}
-use Rattle.knox_circuit.specs.States.{StateLine, names, named_or, init_of, state_among, states_among}
+use Rattle.circuit_lines.specs.declared.line.Line.{Line}
+use Rattle.circuit_lines.specs.declared.line.Shape.{Shape}
+use Rattle.circuit_lines.specs.declared.line.Shape.TheVariants as shape
+use Rattle.circuit_lines.specs.Sorts.{shape_of, literal, state_sort, init_pair}
+use Rattle.knox_circuit.specs.States.{StateLine, state_among, states_among}
+use Rattle.circuit_lines.specs.Nodes.{names, named_or, init_of}
 use Rattle.knox_circuit.specs.Form.{is_constant_shape, is_constant, last_number, is_shape, IsInForm}
 use Rattle.knox_circuit.specs.Resolved.{literal_of, literal_operand}
 use Rattle.knox_circuit.specs.Whole.{is_fed}

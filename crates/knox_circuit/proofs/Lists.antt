@@ -1,8 +1,8 @@
 -- The tables of nodes, constants and first words, line after line.
 use Rattle.std.proofs.Common.{◌≡◌, ℕ, zero, suc, ◌+◌, List, [], ◌∷◌, ◌++◌, Option, Some, None, is_some, length, length-append, drop, slice_get, refl, ◌∙◌, ap, add-one, eq-eqb, if◌then◌else◌}
-use Rattle.knox_circuit.specs.declared.line.Line.{Line}
+use Rattle.circuit_lines.specs.declared.line.Line.{Line}
 use Rattle.knox_circuit.specs.declared.circuit.Cell.{Cell}
-use Rattle.knox_circuit.specs.Sorts.{earlier, literal, input_sort}
+use Rattle.circuit_lines.specs.Sorts.{earlier, literal, input_sort}
 use Rattle.knox_circuit.specs.Ports.{input_port, inputs_of}
 use Rattle.knox_circuit.specs.States.{first_of}
 use Rattle.knox_circuit.specs.Resolved.{node_of, nodes_of, literal_of}

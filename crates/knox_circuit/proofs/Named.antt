@@ -1,8 +1,8 @@
 -- Whether a symbol is taken, line after line.
 use Rattle.std.proofs.Common.{◌≡◌, ℕ, ◌+◌, ◌||◌, List, Some, slice_get, ap}
-use Rattle.knox_circuit.specs.declared.line.Line.{Line}
+use Rattle.circuit_lines.specs.declared.line.Line.{Line}
 use Rattle.knox_circuit.specs.declared.naming.Kind.{Kind}
-use Rattle.knox_circuit.specs.Sorts.{earlier}
+use Rattle.circuit_lines.specs.Sorts.{earlier}
 use Rattle.knox_circuit.specs.Ports.{bears, is_taken}
 use Rattle.knox_circuit.proofs.Earlier.{earlier-more}
 

@@ -4,11 +4,12 @@ use Rattle.std.specs.List.{list_all}
 use Rattle.std.proofs.lemmas.List.{length-map, map-append}
 use Rattle.knox_words.specs.Bits.{Bits, word_at}
 use Rattle.knox_words.specs.Lists.{fit, are_widths}
-use Rattle.knox_circuit.specs.declared.line.Line.{Line}
+use Rattle.circuit_lines.specs.declared.line.Line.{Line}
 use Rattle.knox_circuit.specs.declared.circuit.Cell.{Cell}
 use Rattle.knox_circuit.specs.declared.table.Tables.{Tables}
-use Rattle.knox_circuit.specs.Sorts.{state_sort}
-use Rattle.knox_circuit.specs.States.{StateLine, next_of, init_of, words_in, if_none, if_some, state_cell, cell_among, cells_among, state_among, states_among}
+use Rattle.circuit_lines.specs.Sorts.{state_sort}
+use Rattle.knox_circuit.specs.States.{StateLine, words_in, if_none, if_some, state_cell, cell_among, cells_among, state_among, states_among}
+use Rattle.circuit_lines.specs.Nodes.{next_of, init_of}
 use Rattle.knox_circuit.specs.Circuit.{cells_of, state_widths}
 use Rattle.knox_circuit.specs.Power.{first_keep, states_of, noise_width, noise_widths, fits_noise, noise_among, noise_cells_among, noise_cells}
 use Rattle.knox_circuit.specs.Filled.{known_words, unknown_widths, unknown_cells}

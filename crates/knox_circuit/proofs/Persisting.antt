@@ -3,10 +3,10 @@ use Rattle.std.proofs.Common.{◌≡◌, ◌≤◌, ℕ, List, [], ◌∷◌, �
 use Rattle.std.proofs.lemmas.Nat.{pow_pos}
 use Rattle.knox_words.specs.Bits.{Bits, word_or}
 use Rattle.knox_words.specs.Lists.{fit, fits}
-use Rattle.knox_circuit.specs.declared.line.Line.{Line}
+use Rattle.circuit_lines.specs.declared.line.Line.{Line}
 use Rattle.knox_circuit.specs.declared.circuit.Cell.{Cell}
 use Rattle.knox_circuit.specs.declared.table.Tables.{Tables}
-use Rattle.knox_circuit.specs.States.{size}
+use Rattle.circuit_lines.specs.Nodes.{size}
 use Rattle.knox_circuit.specs.Circuit.{cells_of, state_widths}
 use Rattle.knox_circuit.specs.Power.{first_keep, states_of, noise_widths, state_after_power, persistent_words, persistent_widths, spread_words}
 use Rattle.knox_circuit.specs.Filled.{known_words, filled, unknown_widths}

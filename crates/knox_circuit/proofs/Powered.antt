@@ -4,13 +4,14 @@ use Rattle.std.specs.List.{list_all}
 use Rattle.std.proofs.lemmas.Bool.Decides.{eqb_tells}
 use Rattle.std.proofs.lemmas.List.{length-map}
 use Rattle.knox_words.specs.Bits.{Bits, word_at}
-use Rattle.knox_circuit.specs.declared.line.Line.{Line}
-use Rattle.knox_circuit.specs.declared.line.Shape.{Shape}
-use Rattle.knox_circuit.specs.declared.line.Shape.TheVariants as shape
+use Rattle.circuit_lines.specs.declared.line.Line.{Line}
+use Rattle.circuit_lines.specs.declared.line.Shape.{Shape}
+use Rattle.circuit_lines.specs.declared.line.Shape.TheVariants as shape
 use Rattle.knox_circuit.specs.declared.table.Tables.{Tables}
-use Rattle.knox_circuit.specs.Sorts.{literal, state_sort}
+use Rattle.circuit_lines.specs.Sorts.{literal, state_sort}
 use Rattle.knox_circuit.specs.Meaning.{Value, Given, given, zero_word, constant, operand, level, value_of}
-use Rattle.knox_circuit.specs.States.{StateLine, next_of, words_in, state_among, states_among, cell_among, cells_among, if_some, state_cell}
+use Rattle.knox_circuit.specs.States.{StateLine, words_in, state_among, states_among, cell_among, cells_among, if_some, state_cell}
+use Rattle.circuit_lines.specs.Nodes.{next_of}
 use Rattle.knox_circuit.specs.Circuit.{Circuit, cells_of, value_words}
 use Rattle.knox_circuit.specs.Power.{first_keep, fresh_words, noise_left, with_state, built, nothing_held, states_of, state_after_power, factory_state}
 use Rattle.knox_circuit.specs.Filled.{known_words, filled}

@@ -2,7 +2,7 @@
 use Rattle.std.proofs.Common.{◌≡◌, ◌≤◌, ℕ, List, [], Option, Bool, true, length, map, reverse, sym, ◌∙◌, ap, subst, arith}
 use Rattle.knox_words.specs.Bits.{Bits}
 use Rattle.knox_words.specs.Lists.{fit}
-use Rattle.knox_circuit.specs.declared.line.Line.{Line}
+use Rattle.circuit_lines.specs.declared.line.Line.{Line}
 use Rattle.knox_circuit.specs.declared.table.Tables.{Tables}
 use Rattle.knox_circuit.specs.States.{words_in}
 use Rattle.knox_circuit.specs.Circuit.{Circuit, cells_of, state_widths}

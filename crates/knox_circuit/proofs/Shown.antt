@@ -4,13 +4,14 @@ use Rattle.std.proofs.lemmas.List.{map-append}
 use Rattle.knox_words.specs.Bits.{Bits}
 use Rattle.knox_words.specs.Lists.{fit, fits}
 use Rattle.knox_words.proofs.Lists.{fit-both}
-use Rattle.knox_circuit.specs.declared.line.Line.{Line}
-use Rattle.knox_circuit.specs.declared.line.Shape.{Shape}
-use Rattle.knox_circuit.specs.declared.line.Shape.TheVariants as shape
+use Rattle.circuit_lines.specs.declared.line.Line.{Line}
+use Rattle.circuit_lines.specs.declared.line.Shape.{Shape}
+use Rattle.circuit_lines.specs.declared.line.Shape.TheVariants as shape
 use Rattle.knox_circuit.specs.declared.circuit.Port.{Port}
 use Rattle.knox_circuit.specs.declared.table.Tables.{Tables}
-use Rattle.knox_circuit.specs.Sorts.{output_operand}
-use Rattle.knox_circuit.specs.Ports.{node_width, number_of, output_port, outputs_of, one_or_none, output_operands}
+use Rattle.circuit_lines.specs.Sorts.{output_operand}
+use Rattle.knox_circuit.specs.Ports.{output_port, outputs_of, one_or_none, output_operands}
+use Rattle.circuit_lines.specs.Nodes.{node_width, number_of}
 use Rattle.knox_circuit.specs.Meaning.{Value, word}
 use Rattle.knox_circuit.specs.Form.{is_width, plain_width, is_shape, IsInForm}
 use Rattle.knox_circuit.specs.Whole.{IsTabled}

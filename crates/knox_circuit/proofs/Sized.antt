@@ -2,12 +2,12 @@
 use Rattle.std.proofs.Common.{◌≡◌, ℕ, ◌<◌, ◌≤◌, ℤ, pos, negsuc, List, [], ◌∷◌, Option, Some, None, Bool, true, false, IsTrue, refl, sym, ◌∙◌, ap, subst, arith, eqb-true, inl, inr, if◌then◌else◌}
 use Rattle.std.proofs.lemmas.Bool.Decides.{eqb_tells}
 use borrow.Author.Tests.{ltb-true}
-use Rattle.knox_circuit.specs.declared.line.Line.{Line}
-use Rattle.knox_circuit.specs.declared.line.Shape.{Shape}
-use Rattle.knox_circuit.specs.declared.line.Shape.TheVariants as shape
-use Rattle.knox_circuit.specs.Sorts.{shape_of, words_width, sort_width, sort_named, next_pair, init_pair}
-use Rattle.knox_circuit.specs.Ports.{width_named, shape_width, node_width}
-use Rattle.knox_circuit.specs.States.{names, named_or, next_of, init_of}
+use Rattle.circuit_lines.specs.declared.line.Line.{Line}
+use Rattle.circuit_lines.specs.declared.line.Shape.{Shape}
+use Rattle.circuit_lines.specs.declared.line.Shape.TheVariants as shape
+use Rattle.circuit_lines.specs.Sorts.{shape_of, words_width, sort_width, sort_named, next_pair, init_pair}
+use Rattle.circuit_lines.specs.Nodes.{width_named, shape_width, node_width}
+use Rattle.circuit_lines.specs.Nodes.{names, named_or, next_of, init_of}
 use Rattle.knox_circuit.specs.Form.{is_width, plain_width, last_number, pair_fits, is_shape, is_line, IsInForm}
 use Rattle.knox_circuit.proofs.Bridge.{and-left, and-right}
 use Rattle.knox_circuit.proofs.Earlier.{differs}

@@ -7,16 +7,18 @@ use Rattle.std.proofs.lemmas.List.Folds.{list_all-append}
 use Rattle.knox_words.specs.Bits.{Bits, word_at}
 use Rattle.knox_words.specs.Lists.{fit, fits, are_widths}
 use Rattle.knox_words.proofs.Lists.{length-fit}
-use Rattle.knox_circuit.specs.declared.line.Line.{Line}
-use Rattle.knox_circuit.specs.declared.line.Shape.{Shape}
-use Rattle.knox_circuit.specs.declared.line.Shape.TheVariants as shape
+use Rattle.circuit_lines.specs.declared.line.Line.{Line}
+use Rattle.circuit_lines.specs.declared.line.Shape.{Shape}
+use Rattle.circuit_lines.specs.declared.line.Shape.TheVariants as shape
 use Rattle.knox_circuit.specs.declared.circuit.Cell.{Cell}
 use Rattle.knox_circuit.specs.declared.circuit.Port.{Port}
 use Rattle.knox_circuit.specs.declared.table.Tables.{Tables}
-use Rattle.knox_circuit.specs.Sorts.{shape_of, sort_width, sort_named, input_sort, state_sort}
-use Rattle.knox_circuit.specs.Ports.{shape_width, node_width, width_named, input_port, inputs_of}
+use Rattle.circuit_lines.specs.Sorts.{shape_of, sort_width, sort_named, input_sort, state_sort}
+use Rattle.knox_circuit.specs.Ports.{input_port, inputs_of}
+use Rattle.circuit_lines.specs.Nodes.{shape_width, node_width, width_named}
 use Rattle.knox_circuit.specs.Meaning.{Value, given, operand}
-use Rattle.knox_circuit.specs.States.{StateLine, next_of, init_of, words_in, state_cell, if_some, cell_among, cells_among, state_among, states_among}
+use Rattle.knox_circuit.specs.States.{StateLine, words_in, state_cell, if_some, cell_among, cells_among, state_among, states_among}
+use Rattle.circuit_lines.specs.Nodes.{next_of, init_of}
 use Rattle.knox_circuit.specs.Circuit.{cells_of, values, operand_or_zero, next_words, state_after_tick, state_widths, input_widths}
 use Rattle.knox_circuit.specs.Power.{first_keep}
 use Rattle.knox_circuit.specs.Filled.{known_words}

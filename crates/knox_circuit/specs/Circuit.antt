@@ -1,10 +1,11 @@
 -- What a circuit gives as a whole: its outputs and its ticks.
 use Rattle.std.specs.Prelude.{ℕ, ◌+◌, ◌^◌, zero, suc, ℤ, List, [], ◌∷◌, ◌++◌, map, reverse, length, replicate, Option, Some, None}
 use Rattle.knox_words.specs.Bits.{Bits, word_at}
-use Rattle.knox_circuit.specs.declared.line.Line.{Line}
+use Rattle.circuit_lines.specs.declared.line.Line.{Line}
 use Rattle.knox_circuit.specs.declared.circuit.Cell.{Cell}
 use Rattle.knox_circuit.specs.Meaning.{Value, given, zero_word, constant, operand, word, value_of}
-use Rattle.knox_circuit.specs.States.{next_of, cells_among, cell_of, size, words_in}
+use Rattle.knox_circuit.specs.States.{cells_among, cell_of, words_in}
+use Rattle.circuit_lines.specs.Nodes.{next_of, size}
 use Rattle.knox_circuit.specs.Ports.{output_operands, inputs_of, outputs_of}
 use Rattle.knox_circuit.specs.declared.circuit.Port.{Port}
 

@@ -10,12 +10,12 @@ use Rattle.knox_words.specs.declared.op.Op1.{Op1}
 use Rattle.knox_words.specs.declared.op.Op1.TheVariants.{Not, Redor}
 use Rattle.knox_words.specs.declared.op.Op2.{Op2}
 use Rattle.knox_words.specs.declared.op.Op2.TheVariants.{Eq, And}
-use Rattle.knox_circuit.specs.declared.line.Shape.{Shape}
-use Rattle.knox_circuit.specs.declared.line.Shape.TheVariants as shape
-use Rattle.knox_circuit.specs.declared.line.Line.{Line}
-use Rattle.knox_circuit.specs.Sorts.{shape_of, sort_width}
-use Rattle.knox_circuit.specs.Ports.{node_width}
-use Rattle.knox_circuit.specs.States.{next_of, init_of}
+use Rattle.circuit_lines.specs.declared.line.Shape.{Shape}
+use Rattle.circuit_lines.specs.declared.line.Shape.TheVariants as shape
+use Rattle.circuit_lines.specs.declared.line.Line.{Line}
+use Rattle.circuit_lines.specs.Sorts.{shape_of, sort_width}
+use Rattle.circuit_lines.specs.Nodes.{node_width}
+use Rattle.circuit_lines.specs.Nodes.{next_of, init_of}
 
 -- the width of a positive operand, or 0
 abbrev pub plain_width : List Line → ℤ → ℕ

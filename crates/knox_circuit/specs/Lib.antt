@@ -1,4 +1,3 @@
-pub mod Sorts
 pub mod Ports
 pub mod Meaning
 pub mod Resolved

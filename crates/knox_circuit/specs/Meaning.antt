@@ -6,10 +6,10 @@ use Rattle.std.specs.Prelude.{ℕ, ◌+◌, ◌==◌, ℤ, pos, negsuc, List, []
 use Rattle.knox_words.specs.Bits.{Bits, bits, ite_value, word_at}
 use Rattle.knox_words.specs.Ops.{op1_value, op2_or, slice_or, uext_or, sext_or}
 use Rattle.knox_words.specs.declared.op.Op1.TheVariants.{Not}
-use Rattle.knox_circuit.specs.declared.line.Shape.{Shape}
-use Rattle.knox_circuit.specs.declared.line.Shape.TheVariants as shape
-use Rattle.knox_circuit.specs.declared.line.Line.{Line}
-use Rattle.knox_circuit.specs.Sorts.{literal}
+use Rattle.circuit_lines.specs.declared.line.Shape.{Shape}
+use Rattle.circuit_lines.specs.declared.line.Shape.TheVariants as shape
+use Rattle.circuit_lines.specs.declared.line.Line.{Line}
+use Rattle.circuit_lines.specs.Sorts.{literal}
 use Rattle.knox_circuit.specs.Ports.{inputs_of}
 
 abbrev pub zero_word : Bits

@@ -2,12 +2,13 @@
 -- The project's own: a symbol that begins with `@` names nothing, and the first line of a kind with a symbol has it as its name.
 use Rattle.std.specs.Prelude.{ℕ, ◌+◌, ◌==◌, ◌&&◌, ◌||◌, ℤ, pos, negsuc, List, [], ◌∷◌, ◌++◌, Option, Some, None, is_some, Bool, false, if◌then◌else◌}
 use Rattle.std.specs.Str.{bytes_eq}
-use Rattle.knox_circuit.specs.declared.line.Shape.{Shape}
-use Rattle.knox_circuit.specs.declared.line.Line.{Line}
+use Rattle.circuit_lines.specs.declared.line.Shape.{Shape}
+use Rattle.circuit_lines.specs.declared.line.Line.{Line}
 use Rattle.knox_circuit.specs.declared.circuit.Port.{Port}
 use Rattle.knox_circuit.specs.declared.naming.Kind.{Kind}
 use Rattle.knox_circuit.specs.declared.naming.Kind.TheVariants as kind
-use Rattle.knox_circuit.specs.Sorts.{shape_of, sort_named, sort_width, input_sort, output_operand, state_sort}
+use Rattle.circuit_lines.specs.Nodes.{number_of, node_width}
+use Rattle.circuit_lines.specs.Sorts.{shape_of, sort_named, sort_width, input_sort, output_operand, state_sort}
 
 -- the name that a symbol gives, or nothing where it begins with `@`
 abbrev pub name_of : List ℕ → List ℕ
@@ -31,23 +32,6 @@ is_taken k symbol (l ∷ before) = is_taken k symbol before || bears k symbol l
 -- the name that a line's symbol gives it, after the lines before it
 abbrev pub name_among : Kind → List Line → List ℕ → List ℕ
 name_among k before symbol = if is_taken k symbol before then [] else name_of symbol
-
--- the number of an operand's node
-abbrev pub number_of : ℤ → ℕ
-number_of (pos n) = n
-number_of (negsuc n) = n + 1
-
-abbrev pub width_named : List Line → Option ℕ → ℕ
-width_named before None = 0
-width_named before (Some s) = sort_width before s
-
-abbrev pub shape_width : List Line → Option Shape → ℕ
-shape_width before None = 0
-shape_width before (Some s) = width_named before (sort_named s)
-
--- the width of the node with a number, or 0
-abbrev pub node_width : List Line → ℕ → ℕ
-node_width before n = shape_width before (shape_of before n)
 
 abbrev pub port : Kind → List Line → Line → ℕ → Port
 port k before l width = record { name = name_among k before l.symbol; number = l.number; width = width }

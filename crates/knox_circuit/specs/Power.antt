@@ -4,11 +4,12 @@
 -- The project's own.
 use Rattle.std.specs.Prelude.{ℕ, ◌==◌, ◌&&◌, ℤ, List, [], ◌∷◌, ◌++◌, take, drop, reverse, length, replicate, Bool, false, Option, Some, None, is_some, if◌then◌else◌}
 use Rattle.knox_words.specs.Bits.{Bits, word_at, word_or}
-use Rattle.knox_circuit.specs.declared.line.Line.{Line}
+use Rattle.circuit_lines.specs.declared.line.Line.{Line}
 use Rattle.knox_circuit.specs.declared.circuit.Cell.{Cell}
-use Rattle.knox_circuit.specs.Sorts.{state_sort}
+use Rattle.circuit_lines.specs.Sorts.{state_sort}
 use Rattle.knox_circuit.specs.Meaning.{Value, given, zero_word, constant, operand, value_of}
-use Rattle.knox_circuit.specs.States.{StateLine, size, words_in, next_of, init_of, state_cell, if_none, cells_among, states_among}
+use Rattle.knox_circuit.specs.States.{StateLine, words_in, state_cell, if_none, cells_among, states_among}
+use Rattle.circuit_lines.specs.Nodes.{size, next_of, init_of}
 use Rattle.knox_words.specs.Lists.{fit}
 use Rattle.knox_circuit.specs.Circuit.{Circuit, state_value, value_words, cells_of}
 

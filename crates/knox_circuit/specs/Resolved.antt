@@ -3,17 +3,18 @@ use Rattle.std.specs.Prelude.{◌≡◌, ℕ, zero, suc, ◌+◌, ◌<◌, ◌==
 use Rattle.knox_words.specs.Bits.{Bits, ite_value, word_at}
 use Rattle.knox_words.specs.Ops.{op1_value, op2_or}
 use Rattle.knox_words.specs.declared.op.Op1.TheVariants.{Not}
-use Rattle.knox_circuit.specs.declared.line.Shape.{Shape}
-use Rattle.knox_circuit.specs.declared.line.Shape.TheVariants as shape
-use Rattle.knox_circuit.specs.declared.line.Line.{Line}
+use Rattle.circuit_lines.specs.declared.line.Shape.{Shape}
+use Rattle.circuit_lines.specs.declared.line.Shape.TheVariants as shape
+use Rattle.circuit_lines.specs.declared.line.Line.{Line}
 use Rattle.knox_circuit.specs.declared.node.Arg.{Arg}
 use Rattle.knox_circuit.specs.declared.node.Node.{Node}
 use Rattle.knox_circuit.specs.declared.node.Node.TheVariants as node
 use Rattle.knox_circuit.specs.declared.circuit.Cell.{Cell}
-use Rattle.knox_circuit.specs.Sorts.{literal}
+use Rattle.circuit_lines.specs.Sorts.{literal}
 use Rattle.knox_circuit.specs.Meaning.{zero_word}
 use Rattle.knox_circuit.specs.Ports.{inputs_of}
-use Rattle.knox_circuit.specs.States.{StateLine, first_of, next_of}
+use Rattle.knox_circuit.specs.States.{StateLine, first_of}
+use Rattle.circuit_lines.specs.Nodes.{next_of}
 
 -- a place that no line has
 abbrev pub no_place : ℕ

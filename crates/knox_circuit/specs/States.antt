@@ -1,35 +1,11 @@
 -- The states of a circuit. A cell is a state with a `next` line; a bare state has neither `next` nor `init`.
 use Rattle.std.specs.Prelude.{ℕ, ◌^◌, ◌==◌, ℤ, pos, negsuc, List, [], ◌∷◌, ◌++◌, Bool, false, Option, Some, None, is_some, sum_by, if◌then◌else◌}
-use Rattle.knox_circuit.specs.declared.line.Line.{Line}
+use Rattle.circuit_lines.specs.declared.line.Line.{Line}
 use Rattle.knox_circuit.specs.declared.circuit.Cell.{Cell}
-use Rattle.knox_circuit.specs.Sorts.{sort_width, sort_index, state_sort, next_pair, init_pair}
+use Rattle.circuit_lines.specs.Nodes.{next_of, init_of, size}
+use Rattle.circuit_lines.specs.Sorts.{sort_width, sort_index, state_sort, next_pair, init_pair}
 use Rattle.knox_circuit.specs.declared.naming.Kind.TheVariants as kind
 use Rattle.knox_circuit.specs.Ports.{name_among}
-
--- whether an operand is a node's number
-abbrev pub names : ℤ → ℕ → Bool
-names (pos m) n = m == n
-names (negsuc m) n = false
-
--- the value in a pair that names a node, or else the others'
-abbrev pub named_or : Option (ℤ × ℤ) → ℕ → Option ℤ → Option ℤ
-named_or None n others = others
-named_or (Some (x, v)) n others = if names x n then Some v else others
-
--- the operand of the `next` line of a state
-abbrev pub next_of : List Line → ℕ → Option ℤ
-next_of [] n = None
-next_of (l ∷ before) n = named_or (next_pair l.shape) n (next_of before n)
-
--- the operand of the `init` line of a state
-abbrev pub init_of : List Line → ℕ → Option ℤ
-init_of [] n = None
-init_of (l ∷ before) n = named_or (init_pair l.shape) n (init_of before n)
-
--- how many words a word or an array has
-abbrev pub size : Option ℕ → ℕ
-size None = 1
-size (Some i) = 2 ^ i
 
 abbrev pub words_in : List Cell → ℕ
 words_in cells = sum_by (λ c. size c.index) cells

@@ -1,7 +1,7 @@
 -- What a circuit keeps beside its lines.
 use Rattle.std.specs.Prelude.{◌≡◌, ◌≤◌, List, map, length, is_none, Bool, true}
 use Rattle.std.specs.List.{list_all}
-use Rattle.knox_circuit.specs.declared.line.Line.{Line}
+use Rattle.circuit_lines.specs.declared.line.Line.{Line}
 use Rattle.knox_circuit.specs.declared.circuit.Cell.{Cell}
 use Rattle.knox_circuit.specs.declared.circuit.Port.{Port}
 use Rattle.knox_circuit.specs.declared.table.Tables.{Tables}

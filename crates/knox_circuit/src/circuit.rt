@@ -8,8 +8,8 @@ ghost use Rattle.knox_circuit.specs.Power.{factory_state, state_after_power, fit
 ghost use Rattle.knox_circuit.specs.States.{bares_among, words_in};
 ghost use Rattle.knox_circuit.specs.Whole.{is_complete, IsTabled};
 
-use crate::fault::{BtorFault, Why};
-use crate::line::Line;
+use circuit_lines::{BtorFault, Why};
+use circuit_lines::Line;
 use crate::noise::{self, NoiseCells};
 use crate::table::Tables;
 use crate::{eval, first, power};

@@ -5,9 +5,9 @@ ghost use Rattle.knox_circuit.specs.Form.{is_line};
 ghost use Rattle.knox_circuit.specs.Whole.{is_complete};
 
 use crate::circuit::{self, Circuit};
-use crate::fault::{BtorFault, Why};
+use circuit_lines::{BtorFault, Why};
 use crate::form;
-use crate::line::Line;
+use circuit_lines::Line;
 use sqlite_items::Items;
 use std::alloc::Global;
 use std::marker::Model;

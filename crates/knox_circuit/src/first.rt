@@ -1,14 +1,14 @@
 //! The words that cells get by their `init`, and the tables of a whole circuit.
 ghost use Rattle.std.specs.Prelude.{◌≡◌, ◌≢◌, ◌≤◌, ◌++◌, length, map, reverse, slice_get, false, true, Some, IfOk, IfErr, OnOk};
 ghost use Rattle.std.specs.List.{list_all};
-ghost use Rattle.knox_circuit.specs.Sorts.{earlier, state_sort};
+ghost use Rattle.circuit_lines.specs.Sorts.{earlier, state_sort};
 ghost use Rattle.knox_circuit.specs.States.{state_among, states_among};
 ghost use Rattle.knox_circuit.specs.Resolved.{first_word};
 ghost use Rattle.knox_circuit.specs.Form.{IsInForm};
 ghost use Rattle.knox_circuit.specs.Whole.{is_fed, is_complete, IsTabled};
 
-use crate::fault::{BtorFault, Why};
-use crate::line::Line;
+use circuit_lines::{BtorFault, Why};
+use circuit_lines::Line;
 use crate::look;
 use crate::table::{self, Tables};
 use knox_words::Word;

@@ -4,12 +4,12 @@ ghost use Rattle.std.specs.Char.{digit_value};
 ghost use Rattle.std.specs.List.{list_all};
 ghost use Rattle.std.specs.Option.{option_copied};
 ghost use Rattle.std.specs.Str.Parse.{digits_value};
-ghost use Rattle.knox_circuit.specs.Sorts.{earlier, sort_width};
+ghost use Rattle.circuit_lines.specs.Sorts.{earlier, sort_width};
 ghost use Rattle.knox_circuit.specs.Form.{is_width, plain_width, is_state_shape, is_constant_shape, is_state, is_constant, are_digits, all_digits, fits_un, fits_bin, is_shape, is_line, last_number, has_no, constant_fits, pair_fits, un_fits, bin_fits, ite_fits};
-ghost use Rattle.knox_circuit.specs.States.{next_of, init_of};
+ghost use Rattle.circuit_lines.specs.Nodes.{next_of, init_of};
 
-use crate::fault::Why;
-use crate::line::{Line, Shape};
+use circuit_lines::Why;
+use circuit_lines::{Line, Shape};
 use crate::look;
 use knox_words::{Op1, Op2};
 

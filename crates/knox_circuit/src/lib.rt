@@ -6,11 +6,9 @@
 mod circuit;
 mod draft;
 mod eval;
-mod fault;
 mod first;
 mod form;
 mod laws;
-mod line;
 mod look;
 mod naming;
 mod node;
@@ -18,13 +16,12 @@ mod noise;
 mod power;
 mod table;
 
+pub use circuit_lines::{BtorFault, Line, Shape, Why};
 pub use circuit::{Cell, Circuit, Inputs, Noise, Port, Scratch, State};
 pub use draft::Draft;
-pub use fault::{BtorFault, Why};
 pub use laws::{
     cells_are_single_words, circuits_have_widths, circuits_keep_widths,
     noise_cells_are_single_words, outputs_have_widths, persistent_words_are_spread,
     power_keeps_persistent_words,
 };
-pub use line::{Line, Shape};
 pub use noise::{NoiseCell, NoiseCells};

@@ -1,9 +1,9 @@
 //! The names of inputs, outputs and states.
 ghost use Rattle.std.specs.Prelude.{◌≡◌, ◌≤◌, length, IfOk};
-ghost use Rattle.knox_circuit.specs.Sorts.{earlier};
+ghost use Rattle.circuit_lines.specs.Sorts.{earlier};
 ghost use Rattle.knox_circuit.specs.Ports.{name_of, is_of, bears, is_taken, name_among};
 
-use crate::line::{Line, Shape};
+use circuit_lines::{Line, Shape};
 use crate::look;
 use sqlite_items::Items;
 use std::alloc::{AllocError, Global};

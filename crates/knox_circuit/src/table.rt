@@ -2,14 +2,15 @@
 ghost use Rattle.std.specs.Prelude.{◌≡◌, ◌≤◌, ◌<◌, ◌+◌, ◌++◌, if◌then◌else◌, length, map, reverse, slice_get, is_none, is_some, true, Some, IfOk, IfSome, IfErr, OnOk, MatchResult, IsTrue};
 ghost use Rattle.std.specs.List.{list_all};
 ghost use Rattle.knox_words.specs.Bits.{word_or};
-ghost use Rattle.knox_circuit.specs.Sorts.{earlier, literal, input_sort, state_sort, output_operand};
+ghost use Rattle.circuit_lines.specs.Sorts.{earlier, literal, input_sort, state_sort, output_operand};
 ghost use Rattle.knox_circuit.specs.Ports.{port, input_port, inputs_of, output_port, outputs_of, output_operands, one_or_none};
-ghost use Rattle.knox_circuit.specs.States.{first_of, next_of, cell_among, cells_among, bare_among, bares_among, state_among, states_among, state_cell, words_in};
+ghost use Rattle.knox_circuit.specs.States.{first_of, cell_among, cells_among, bare_among, bares_among, state_among, states_among, state_cell, words_in};
+ghost use Rattle.circuit_lines.specs.Nodes.{next_of};
 ghost use Rattle.knox_circuit.specs.Resolved.{place_of, arg_of, arg_or_zero, state_node, operator_node, node_of, nodes_of, output_args, next_args, first_word, literal_of, literal_operand};
 ghost use Rattle.knox_circuit.specs.Form.{IsInForm, is_shape, is_line};
 
 use crate::circuit::{Cell, Port};
-use crate::line::{Line, Shape};
+use circuit_lines::{Line, Shape};
 use crate::naming::{self, Kind};
 use crate::node::{Arg, Node};
 use crate::{form, look};

@@ -6,8 +6,8 @@ use Rattle.knox_text.specs.Places.{start_of, end_of}
 use Rattle.knox_sexpr.specs.declared.tree.Tree.{Tree}
 use Rattle.knox_sexpr.specs.Grammar.{Means}
 use Rattle.knox_edge.specs.Texts.{Bytes}
-use Rattle.knox_circuit.specs.declared.fault.Why.{Why}
-use Rattle.knox_circuit.specs.declared.fault.Why.TheVariants as circuit
+use Rattle.circuit_lines.specs.declared.fault.Why.{Why}
+use Rattle.circuit_lines.specs.declared.fault.Why.TheVariants as circuit
 use Rattle.knox_circuit.specs.Circuit.{Circuit}
 use Rattle.knox_lang.specs.declared.parts.SpecParts.{SpecParts}
 use Rattle.knox_lang.specs.declared.parts.DriverParts.{DriverParts}

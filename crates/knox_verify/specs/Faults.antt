@@ -1,7 +1,7 @@
 -- Faults of texts as faults of the verifier: want of memory stays want of memory. Two faults have a place already, a call that a driver's text lacks and a
 -- form that a text of hints lacks; every other one is that of a form that isn't built.
-use Rattle.knox_circuit.specs.declared.fault.Why.{Why}
-use Rattle.knox_circuit.specs.declared.fault.Why.TheVariants as circuit
+use Rattle.circuit_lines.specs.declared.fault.Why.{Why}
+use Rattle.circuit_lines.specs.declared.fault.Why.TheVariants as circuit
 use Rattle.knox_sexpr.specs.declared.fault.SexprFault.{SexprFault}
 use Rattle.knox_sexpr.specs.declared.fault.SexprFault.TheVariants as tree
 use Rattle.expr_read.specs.declared.faults.LangWhy.{LangWhy}

@@ -8,7 +8,7 @@ use Rattle.knox_theory.proofs.Agreeing.{agree}
 use Rattle.knox_theory.proofs.Listed.{closed-host, closed-wires}
 use Rattle.knox_circuit.specs.declared.circuit.Cell.{Cell}
 use Rattle.knox_circuit.specs.declared.circuit.Port.{Port}
-use Rattle.knox_circuit.specs.declared.line.Line.{Line}
+use Rattle.circuit_lines.specs.declared.line.Line.{Line}
 use Rattle.knox_circuit.specs.declared.table.Tables.{Tables}
 use Rattle.knox_circuit.specs.Circuit.{cells_of}
 use Rattle.knox_circuit.specs.Form.{is_line, IsInForm}

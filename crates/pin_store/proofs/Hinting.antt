@@ -6,7 +6,7 @@ use Rattle.knox_words.specs.declared.op.Op2.TheVariants.{Eq, And}
 use Rattle.knox_theory.specs.Script.{State, WireItems, Step, Cut, Subsume, Close, HostSections, Script}
 use Rattle.knox_circuit.specs.Circuit.{cells_of}
 use Rattle.knox_circuit.specs.Power.{spread_words}
-use Rattle.knox_circuit.specs.declared.line.Line.{Line}
+use Rattle.circuit_lines.specs.declared.line.Line.{Line}
 use Rattle.knox_lang.specs.declared.expr.Expr.{Expr}
 use Rattle.knox_lang.specs.declared.expr.Expr.TheVariants as expr
 use Rattle.knox_lang.specs.declared.expr.Stmt.{Stmt}

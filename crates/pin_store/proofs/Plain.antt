@@ -7,7 +7,7 @@ use Rattle.knox_words.specs.declared.op.Op1.TheVariants.{Not}
 use Rattle.knox_words.specs.declared.op.Op2.TheVariants.{Eq}
 use Rattle.knox_theory.specs.Device.{Reply, Replied, OutOfTurns, Asking, Ask, Ended, Device}
 use Rattle.knox_theory.specs.Design.{Design}
-use Rattle.knox_circuit.specs.declared.line.Line.{Line}
+use Rattle.circuit_lines.specs.declared.line.Line.{Line}
 use Rattle.knox_circuit.specs.Circuit.{cells_of, output_words, state_after_tick, state_widths, input_widths}
 use Rattle.knox_circuit.specs.Power.{factory_state, state_after_power, states_of, noise_widths, persistent_words, persistent_widths, spread_words}
 use Rattle.knox_lang.specs.declared.expr.Stmt.{Stmt}

@@ -8,7 +8,7 @@ use Rattle.knox_theory.specs.Script.{HostSections, Script}
 use Rattle.knox_theory.specs.WireSegments.{enters}
 use Rattle.knox_theory.specs.HostSegments.{is_reply, call_course}
 use Rattle.knox_theory.specs.Segments.{Segment, segments, wire_segment, cut_segment, factory_segment, boot_host_segment, rest_segment, wait_segment, call_segment}
-use Rattle.knox_circuit.specs.declared.line.Line.{Line}
+use Rattle.circuit_lines.specs.declared.line.Line.{Line}
 use Rattle.driver_machine.specs.Left.{Left}
 use Rattle.driver_machine.specs.Lawful.{HasOp, HasDriver}
 use Rattle.driver_machine.proofs.Meaning.{start-means}

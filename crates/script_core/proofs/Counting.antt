@@ -6,7 +6,7 @@ use Rattle.knox_words.specs.Lists.{total}
 use Rattle.knox_circuit.specs.declared.circuit.Cell.{Cell}
 use Rattle.knox_circuit.specs.Circuit.{state_widths}
 use Rattle.knox_circuit.specs.Power.{first_keep, persistent_widths}
-use Rattle.knox_circuit.specs.States.{size}
+use Rattle.circuit_lines.specs.Nodes.{size}
 use Rattle.script_core.specs.Runs.{counted}
 
 pub counted-small : (n : ℕ) → n ≤ 18446744073709551615 → counted n ≡ n

@@ -3,7 +3,7 @@ ghost use Rattle.std.specs.Prelude.{◌≡◌, ◌+◌, ◌^◌, [], length, rep
 ghost use Rattle.knox_words.specs.Lists.{total};
 ghost use Rattle.knox_circuit.specs.Circuit.{cells_of, state_widths, input_widths};
 ghost use Rattle.knox_circuit.specs.Power.{first_keep, persistent_widths, noise_widths, states_of};
-ghost use Rattle.knox_circuit.specs.States.{size};
+ghost use Rattle.circuit_lines.specs.Nodes.{size};
 ghost use Rattle.knox_lang.specs.Operation.{arg_widths};
 ghost use Rattle.knox_lang.specs.WellFormed.{word_widths};
 ghost use Rattle.device_design.specs.Meaning.{head_args};

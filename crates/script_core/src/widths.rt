@@ -2,7 +2,7 @@
 ghost use Rattle.std.specs.Prelude.{◌≡◌, ◌^◌, ◌++◌, [], drop, replicate, IfOk, OnOk, if◌then◌else◌};
 ghost use Rattle.knox_circuit.specs.Circuit.{cells_of, state_widths, input_widths};
 ghost use Rattle.knox_circuit.specs.Power.{first_keep, persistent_widths, states_of, noise_widths};
-ghost use Rattle.knox_circuit.specs.States.{size};
+ghost use Rattle.circuit_lines.specs.Nodes.{size};
 ghost use Rattle.knox_lang.specs.WellFormed.{word_widths};
 ghost use Rattle.script_core.specs.Widths.{port_widths};
 

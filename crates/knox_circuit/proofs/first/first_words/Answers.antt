@@ -1,5 +1,5 @@
 use Rattle.std.proofs.Common.{length}
-use Rattle.knox_circuit.specs.Sorts.{earlier}
+use Rattle.circuit_lines.specs.Sorts.{earlier}
 use Rattle.knox_circuit.proofs.Complete.{words-more, fed-more}
 use Rattle.knox_circuit.proofs.first.first_words.Goals as goal
 

@@ -1,6 +1,6 @@
 use Rattle.std.proofs.Common.{◌≡◌, true, map, length}
 use Rattle.std.specs.List.{list_all}
-use Rattle.knox_circuit.specs.Sorts.{earlier}
+use Rattle.circuit_lines.specs.Sorts.{earlier}
 use Rattle.knox_circuit.specs.States.{states_among}
 use Rattle.knox_circuit.specs.Resolved.{first_word}
 use Rattle.knox_circuit.specs.Whole.{is_fed}

@@ -1,6 +1,6 @@
 use Rattle.std.proofs.Common.{◌≡◌}
-use Rattle.knox_circuit.specs.Sorts.{earlier}
-use Rattle.knox_circuit.specs.States.{init_of}
+use Rattle.circuit_lines.specs.Sorts.{earlier}
+use Rattle.circuit_lines.specs.Nodes.{init_of}
 use Rattle.knox_circuit.proofs.look.init_of.Given as goal
 
 abbrev pub invariant-loop-k : goal.invariant-loop-k

@@ -1,5 +1,5 @@
 use Rattle.std.proofs.Common.{◌≡◌}
-use Rattle.knox_circuit.specs.Sorts.{earlier}
+use Rattle.circuit_lines.specs.Sorts.{earlier}
 use Rattle.knox_circuit.specs.Resolved.{place_of}
 use Rattle.knox_circuit.proofs.look.place_at.Given as goal
 

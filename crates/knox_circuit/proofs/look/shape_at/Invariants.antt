@@ -1,6 +1,6 @@
 use Rattle.std.proofs.Common.{◌≡◌}
 use Rattle.std.specs.Option.{option_copied}
-use Rattle.knox_circuit.specs.Sorts.{earlier, shape_of}
+use Rattle.circuit_lines.specs.Sorts.{earlier, shape_of}
 use Rattle.knox_circuit.proofs.look.shape_at.Given as goal
 
 abbrev pub invariant-loop-k : goal.invariant-loop-k

@@ -1,5 +1,5 @@
 use Rattle.std.proofs.Common.{◌≡◌, ◌++◌, length}
-use Rattle.knox_circuit.specs.Sorts.{earlier, state_sort}
+use Rattle.circuit_lines.specs.Sorts.{earlier, state_sort}
 use Rattle.knox_circuit.specs.States.{cell_among}
 use Rattle.knox_circuit.proofs.Formed.{cells-more, cells-few}
 use Rattle.knox_circuit.proofs.table.cells.Goals as goal

@@ -1,5 +1,5 @@
 use Rattle.std.proofs.Common.{◌≡◌}
-use Rattle.knox_circuit.specs.Sorts.{earlier}
+use Rattle.circuit_lines.specs.Sorts.{earlier}
 use Rattle.knox_circuit.specs.Resolved.{literal_of}
 use Rattle.knox_circuit.proofs.table.literal_of.Given as goal
 

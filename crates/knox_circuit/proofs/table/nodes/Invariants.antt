@@ -1,5 +1,5 @@
 use Rattle.std.proofs.Common.{◌≡◌, ◌≤◌, length}
-use Rattle.knox_circuit.specs.Sorts.{earlier}
+use Rattle.circuit_lines.specs.Sorts.{earlier}
 use Rattle.knox_circuit.specs.Ports.{inputs_of}
 use Rattle.knox_circuit.specs.Resolved.{nodes_of}
 use Rattle.knox_circuit.proofs.table.nodes.Given as goal

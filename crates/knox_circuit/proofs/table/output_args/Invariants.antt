@@ -1,5 +1,5 @@
 use Rattle.std.proofs.Common.{◌≡◌, length}
-use Rattle.knox_circuit.specs.Sorts.{earlier}
+use Rattle.circuit_lines.specs.Sorts.{earlier}
 use Rattle.knox_circuit.specs.Ports.{output_operands}
 use Rattle.knox_circuit.specs.Resolved.{output_args}
 use Rattle.knox_circuit.proofs.table.output_args.Given as goal

@@ -1,6 +1,6 @@
 use Rattle.std.proofs.Common.{◌≡◌, ◌<◌, ◌≤◌, None, length, arith}
 use Rattle.std.proofs.lemmas.Option.{slice_get_within}
-use Rattle.knox_circuit.specs.Sorts.{earlier, sort_index}
+use Rattle.circuit_lines.specs.Sorts.{earlier, sort_index}
 use Rattle.knox_circuit.proofs.Formed.{no_index, cell-is}
 use Rattle.knox_circuit.proofs.table.state_cell.Goals as goal
 

@@ -6,9 +6,9 @@ use Rattle.std.specs.Str.Parse.{digits_value}
 use Rattle.knox_words.specs.Bits.{Bits, word_or}
 use Rattle.knox_words.specs.Ops.{op1_value}
 use Rattle.knox_words.specs.declared.op.Op1.TheVariants.{Neg}
-use Rattle.knox_circuit.specs.declared.line.Shape.{Shape}
-use Rattle.knox_circuit.specs.declared.line.Shape.TheVariants as shape
-use Rattle.knox_circuit.specs.declared.line.Line.{Line}
+use Rattle.circuit_lines.specs.declared.line.Shape.{Shape}
+use Rattle.circuit_lines.specs.declared.line.Shape.TheVariants as shape
+use Rattle.circuit_lines.specs.declared.line.Line.{Line}
 
 -- the first i of some lines, from the last to the first
 abbrev pub earlier : List Line → ℕ → List Line

@@ -36,7 +36,7 @@ pub enum Why {
 
 impl From<AllocError> for Why {
     ghost use Rattle.std.specs.Prelude.{◌≡◌};
-    ghost use Rattle.knox_circuit.specs.declared.fault.Why.TheVariants.{Memory};
+    ghost use Rattle.circuit_lines.specs.declared.fault.Why.TheVariants.{Memory};
 
     ghost from_gives = { λ _ why. why ≡ Memory };
 
@@ -54,7 +54,7 @@ pub struct BtorFault {
 
 impl From<AllocError> for BtorFault {
     ghost use Rattle.std.specs.Prelude.{◌≡◌};
-    ghost use Rattle.knox_circuit.specs.declared.fault.Why.TheVariants.{Memory};
+    ghost use Rattle.circuit_lines.specs.declared.fault.Why.TheVariants.{Memory};
 
     ghost from_gives = { λ _ fault. fault.why ≡ Memory };
 
