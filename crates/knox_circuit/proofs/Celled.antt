@@ -11,10 +11,9 @@ use Rattle.circuit_lines.specs.declared.line.Shape.TheVariants as shape
 use Rattle.knox_circuit.specs.declared.circuit.Cell.{Cell}
 use Rattle.knox_circuit.specs.declared.table.Tables.{Tables}
 use Rattle.circuit_lines.specs.Sorts.{shape_of, sort_width, sort_named, state_sort}
-use Rattle.circuit_lines.specs.Nodes.{node_width}
+use Rattle.circuit_lines.specs.Nodes.{node_width, next_of, size}
 use Rattle.knox_circuit.specs.Meaning.{given}
 use Rattle.knox_circuit.specs.States.{words_in, first_of, state_cell, if_some, cell_among, cells_among, state_among, states_among}
-use Rattle.circuit_lines.specs.Nodes.{next_of, size}
 use Rattle.knox_circuit.specs.Circuit.{cells_of, held_by, values, state_widths, input_widths}
 use Rattle.knox_circuit.specs.Form.{is_width, last_number, IsInForm}
 use Rattle.knox_circuit.specs.Resolved.{state_node, node_word}

@@ -20,9 +20,8 @@ use Rattle.knox_circuit.specs.declared.circuit.Cell.{Cell}
 use Rattle.circuit_lines.specs.Sorts.{earlier, decimal, shape_of, words_width, sort_width, sort_index, indices_width, input_sort, state_sort, output_operand}
 use Rattle.knox_circuit.specs.declared.naming.Kind.TheVariants as kind
 use Rattle.knox_circuit.specs.Ports.{name_among, input_port, inputs_of, output_port, outputs_of, output_operands, one_or_none}
-use Rattle.circuit_lines.specs.Nodes.{number_of, node_width}
+use Rattle.circuit_lines.specs.Nodes.{number_of, node_width, next_of, size}
 use Rattle.knox_circuit.specs.States.{words_in, if_some, state_cell, cell_among, cells_among}
-use Rattle.circuit_lines.specs.Nodes.{next_of, size}
 use Rattle.knox_circuit.specs.Form.{all_digits, are_digits, constant_fits, last_number, is_shape, is_line, is_width, plain_width, IsInForm}
 use Rattle.knox_circuit.specs.Resolved.{arg_of, output_args}
 use Rattle.knox_circuit.proofs.Earlier.{earlier-next, earlier-more}

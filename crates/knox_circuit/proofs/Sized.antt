@@ -6,8 +6,7 @@ use Rattle.circuit_lines.specs.declared.line.Line.{Line}
 use Rattle.circuit_lines.specs.declared.line.Shape.{Shape}
 use Rattle.circuit_lines.specs.declared.line.Shape.TheVariants as shape
 use Rattle.circuit_lines.specs.Sorts.{shape_of, words_width, sort_width, sort_named, next_pair, init_pair}
-use Rattle.circuit_lines.specs.Nodes.{width_named, shape_width, node_width}
-use Rattle.circuit_lines.specs.Nodes.{names, named_or, next_of, init_of}
+use Rattle.circuit_lines.specs.Nodes.{width_named, shape_width, node_width, names, named_or, next_of, init_of}
 use Rattle.knox_circuit.specs.Form.{is_width, plain_width, last_number, pair_fits, is_shape, is_line, IsInForm}
 use Rattle.knox_circuit.proofs.Bridge.{and-left, and-right}
 use Rattle.knox_circuit.proofs.Earlier.{differs}

@@ -14,8 +14,7 @@ use Rattle.circuit_lines.specs.declared.line.Shape.{Shape}
 use Rattle.circuit_lines.specs.declared.line.Shape.TheVariants as shape
 use Rattle.circuit_lines.specs.declared.line.Line.{Line}
 use Rattle.circuit_lines.specs.Sorts.{shape_of, sort_width}
-use Rattle.circuit_lines.specs.Nodes.{node_width}
-use Rattle.circuit_lines.specs.Nodes.{next_of, init_of}
+use Rattle.circuit_lines.specs.Nodes.{node_width, next_of, init_of}
 
 -- the width of a positive operand, or 0
 abbrev pub plain_width : List Line → ℤ → ℕ

@@ -8,11 +8,10 @@ ghost use Rattle.knox_circuit.specs.Power.{factory_state, state_after_power, fit
 ghost use Rattle.knox_circuit.specs.States.{bares_among, words_in};
 ghost use Rattle.knox_circuit.specs.Whole.{is_complete, IsTabled};
 
-use circuit_lines::{BtorFault, Why};
-use circuit_lines::Line;
 use crate::noise::{self, NoiseCells};
 use crate::table::Tables;
 use crate::{eval, first, power};
+use circuit_lines::{BtorFault, Line, Why};
 use knox_words::{Word, Words};
 use sqlite_items::Items;
 use std::alloc::{AllocError, Global};

@@ -5,9 +5,8 @@ ghost use Rattle.knox_circuit.specs.Form.{is_line};
 ghost use Rattle.knox_circuit.specs.Whole.{is_complete};
 
 use crate::circuit::{self, Circuit};
-use circuit_lines::{BtorFault, Why};
 use crate::form;
-use circuit_lines::Line;
+use circuit_lines::{BtorFault, Line, Why};
 use sqlite_items::Items;
 use std::alloc::Global;
 use std::marker::Model;

@@ -7,10 +7,9 @@ ghost use Rattle.knox_circuit.specs.Resolved.{first_word};
 ghost use Rattle.knox_circuit.specs.Form.{IsInForm};
 ghost use Rattle.knox_circuit.specs.Whole.{is_fed, is_complete, IsTabled};
 
-use circuit_lines::{BtorFault, Why};
-use circuit_lines::Line;
 use crate::look;
 use crate::table::{self, Tables};
+use circuit_lines::{BtorFault, Line, Why};
 use knox_words::Word;
 use sqlite_items::Items;
 use std::alloc::Global;

@@ -8,9 +8,8 @@ ghost use Rattle.circuit_lines.specs.Sorts.{earlier, sort_width};
 ghost use Rattle.knox_circuit.specs.Form.{is_width, plain_width, is_state_shape, is_constant_shape, is_state, is_constant, are_digits, all_digits, fits_un, fits_bin, is_shape, is_line, last_number, has_no, constant_fits, pair_fits, un_fits, bin_fits, ite_fits};
 ghost use Rattle.circuit_lines.specs.Nodes.{next_of, init_of};
 
-use circuit_lines::Why;
-use circuit_lines::{Line, Shape};
 use crate::look;
+use circuit_lines::{Line, Shape, Why};
 use knox_words::{Op1, Op2};
 
 fn is_width(width: u32) -> bool

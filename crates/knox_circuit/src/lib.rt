@@ -16,8 +16,8 @@ mod noise;
 mod power;
 mod table;
 
-pub use circuit_lines::{BtorFault, Line, Shape, Why};
 pub use circuit::{Cell, Circuit, Inputs, Noise, Port, Scratch, State};
+pub use circuit_lines::{BtorFault, Line, Shape, Why};
 pub use draft::Draft;
 pub use laws::{
     cells_are_single_words, circuits_have_widths, circuits_keep_widths,

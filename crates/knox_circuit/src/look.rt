@@ -2,8 +2,7 @@
 ghost use Rattle.std.specs.Prelude.{◌≡◌, ◌≤◌, ◌<◌, length, slice_get, Some, None};
 ghost use Rattle.std.specs.Option.{option_copied};
 ghost use Rattle.circuit_lines.specs.Sorts.{earlier, shape_of, bitvec_width, words_width, sort_width, indices_width, sort_index, sort_named, input_sort, state_sort, output_operand, next_pair, init_pair};
-ghost use Rattle.circuit_lines.specs.Nodes.{shape_width, node_width, number_of};
-ghost use Rattle.circuit_lines.specs.Nodes.{names, named_or, next_of, init_of};
+ghost use Rattle.circuit_lines.specs.Nodes.{shape_width, node_width, number_of, names, named_or, next_of, init_of};
 ghost use Rattle.knox_circuit.specs.Resolved.{place_of};
 
 use circuit_lines::{Line, Shape};

@@ -3,8 +3,8 @@ ghost use Rattle.std.specs.Prelude.{◌≡◌, ◌≤◌, length, IfOk};
 ghost use Rattle.circuit_lines.specs.Sorts.{earlier};
 ghost use Rattle.knox_circuit.specs.Ports.{name_of, is_of, bears, is_taken, name_among};
 
-use circuit_lines::{Line, Shape};
 use crate::look;
+use circuit_lines::{Line, Shape};
 use sqlite_items::Items;
 use std::alloc::{AllocError, Global};
 

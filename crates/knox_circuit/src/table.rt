@@ -10,10 +10,10 @@ ghost use Rattle.knox_circuit.specs.Resolved.{place_of, arg_of, arg_or_zero, sta
 ghost use Rattle.knox_circuit.specs.Form.{IsInForm, is_shape, is_line};
 
 use crate::circuit::{Cell, Port};
-use circuit_lines::{Line, Shape};
 use crate::naming::{self, Kind};
 use crate::node::{Arg, Node};
 use crate::{form, look};
+use circuit_lines::{Line, Shape};
 use knox_words::Word;
 use sqlite_items::Items;
 use std::alloc::{AllocError, Global};
