@@ -4,12 +4,37 @@ ghost use Rattle.knox_words.specs.Bits.{word_at};
 ghost use Rattle.knox_words.specs.Ops.{slice_or, uext_or, sext_or};
 ghost use Rattle.circuit_nodes.specs.Values.{given, arg_word, value_at, IsFilled};
 ghost use Rattle.circuit_nodes.specs.Hops.{Leads};
+ghost use Rattle.circuit_nodes.specs.Sources.{room_word, room_arg};
 
 use crate::node::{Arg, Node};
 use knox_words::{Op1, Word};
 
+/// The word of a node before `upto` in a scratch area.
+fn room_word(room: &[Word], upto: usize, node: u32) -> Word
+    ensures { result ≡ room_word room.now upto node }
+{
+    let at = node as usize;
+    if at < upto {
+        knox_words::word_at(room, at)
+    } else {
+        knox_words::zero()
+    }
+}
+
+/// The word of an operand over the nodes before `upto`, in a scratch area.
+pub(crate) fn room_arg(room: &[Word], upto: usize, arg: Arg) -> Word
+    ensures { result ≡ room_arg room.now upto arg }
+{
+    let word = room_word(room, upto, arg.node);
+    if arg.complement {
+        knox_words::op1(Op1::Not, word)
+    } else {
+        word
+    }
+}
+
 /// The word of a node before `upto`, whose words `room` holds.
-#[tactic(auto, using(crate::proofs::Places::place_steps))]
+#[tactic(auto, using(crate::proofs::Places::room_steps))]
 fn word_before(
     nodes: &[Node],
     inputs: &[Word],
@@ -21,16 +46,12 @@ fn word_before(
     requires { IsFilled (given inputs.now state.now) nodes.now room.now upto }
     ensures { result ≡ value_at (given inputs.now state.now) nodes.now upto node 0 }
 {
-    let at = node as usize;
-    if at < upto {
-        knox_words::word_at(room, at)
-    } else {
-        knox_words::zero()
-    }
+    room_word(room, upto, node)
 }
 
-/// The word of an operand over the nodes before `upto`.
-pub(crate) fn arg_before(
+/// The word of an operand over the nodes before `upto`, whose words `room` holds.
+#[tactic(auto, using(crate::proofs::Places::room_steps))]
+fn arg_before(
     nodes: &[Node],
     inputs: &[Word],
     state: &[Word],
@@ -41,12 +62,7 @@ pub(crate) fn arg_before(
     requires { IsFilled (given inputs.now state.now) nodes.now room.now upto }
     ensures { result ≡ arg_word (value_at (given inputs.now state.now) nodes.now upto) arg }
 {
-    let word = word_before(nodes, inputs, state, room, upto, arg.node);
-    if arg.complement {
-        knox_words::op1(Op1::Not, word)
-    } else {
-        word
-    }
+    room_arg(room, upto, arg)
 }
 
 /// The node at a place.
