@@ -1,17 +1,16 @@
 -- Following a node to its base, and putting the writes of a chain over it.
-use Rattle.std.proofs.Common.{◌≡◌, ℕ, zero, suc, ◌+◌, ◌-◌, ◌<◌, ◌≤◌, ◌==◌, List, [], ◌∷◌, ◌++◌, Option, Some, None, true, false, set, take, drop, length, slice_get, get_or, refl, sym, ◌∙◌, ap, arith, add-one, eq-eqb, inl, inr}
+use Rattle.std.proofs.Common.{◌≡◌, ℕ, zero, suc, ◌+◌, ◌-◌, ◌<◌, ◌≤◌, ◌==◌, List, [], ◌∷◌, ◌++◌, Option, Some, None, true, false, set, take, drop, replicate, length, slice_get, get_or, refl, sym, ◌∙◌, ap, arith, add-one, eq-eqb, inl, inr}
 use Rattle.std.proofs.lemmas.Bool.{cases_lt}
-use Rattle.std.proofs.lemmas.List.{append-nil, append_assoc, set_past, take_more_set, take_all, drop_all, drop_more}
-use Rattle.std.proofs.lemmas.Grind.{common_steps}
+use Rattle.std.proofs.lemmas.List.{append-nil, append_assoc, set_past, take_more_set, take_all, replicate_more, drop_all, drop_more}
 use Rattle.knox_words.specs.Bits.{Bits, word_at}
 use Rattle.circuit_nodes.specs.declared.node.Arg.{Arg}
 use Rattle.circuit_nodes.specs.declared.node.Node.{Node}
 use Rattle.circuit_nodes.specs.declared.node.Node.TheVariants as node
 use Rattle.circuit_nodes.specs.declared.chain.Base.{Base}
 use Rattle.circuit_nodes.specs.declared.chain.Base.TheVariants as base
-use Rattle.circuit_nodes.specs.Values.{Value, zero_word}
+use Rattle.circuit_nodes.specs.Values.{Value, zero_word, constant}
 use Rattle.circuit_nodes.specs.Ticks.{first_words}
-use Rattle.circuit_nodes.specs.Sources.{Source, bare, with_write, room_arg, source_level, source_at, base_value, put_word, put_words}
+use Rattle.circuit_nodes.specs.Sources.{Source, bare, with_write, source_level, source_at, put_word, put_words}
 use Rattle.circuit_nodes.proofs.Places.{differs}
 
 same : (a b : ℕ) → a ≡ b → a == b ≡ true
@@ -67,11 +66,12 @@ chain-none room ns before at so_far whole h f =
 -- the node at `at` writes over the words of node a
 pub chain-put : (room : List Bits) (ns : List Node) (before at a : ℕ) (chain : List ℕ) (writes : ℕ) (whole : Source) → at < before → source_at room ns (at + 1) at ≡ with_write at (source_at room ns at a) → writes < length chain → (source_at room ns before at).base ≡ whole.base → take writes chain ++ (source_at room ns before at).chain ≡ whole.chain → ((source_at room ns at a).base ≡ whole.base) × (take (writes + 1) (set chain writes at) ++ (source_at room ns at a).chain ≡ whole.chain)
 chain-put room ns before at a chain writes whole h is lt e f =
-    let s : source_at room ns before at ≡ with_write at (source_at room ns at a) = source_at-at room ns before at h ∙ is in
-    (sym (ap (λ (x : Source). x.base) s) ∙ e,
-    ap (λ (z : List ℕ). z ++ (source_at room ns at a).chain) (take_more_set chain writes at lt)
-    ∙ (append_assoc (take writes chain) (at ∷ []) (source_at room ns at a).chain
-    ∙ (ap (λ (x : Source). take writes chain ++ x.chain) (sym s) ∙ f)))
+    let s : source_at room ns before at ≡ with_write at (source_at room ns at a) = source_at-at room ns before at h ∙ is in (
+      sym (ap (λ (x : Source). x.base) s) ∙ e,
+      ap (λ (z : List ℕ). z ++ (source_at room ns at a).chain) (take_more_set chain writes at lt)
+          ∙ (append_assoc (take writes chain) (at ∷ []) (source_at room ns at a).chain
+          ∙ (ap (λ (x : Source). take writes chain ++ x.chain) (sym s) ∙ f)),
+    )
 
 pub ruleset chain_steps = (source_at-none, source_at-at, take_more_set)
 
@@ -102,4 +102,8 @@ pub ruleset put_steps = (put_word-other, put_words-more, set_past, drop_all)
 pub first_words-more : (v : Value) (n : ℕ) → first_words v (n + 1) ≡ first_words v n ++ v n ∷ []
 first_words-more v n = rw add-one refl
 
-pub ruleset base_steps = (first_words-more, take_more_set, take_all)
+pub first_words-constant : (w : Bits) (n : ℕ) → first_words (constant w) n ≡ replicate n w
+first_words-constant w zero = refl
+first_words-constant w (suc n) = ap (λ (z : List Bits). z ++ w ∷ []) (first_words-constant w n) ∙ rw add-one at (replicate_more n w)
+
+pub ruleset base_steps = (first_words-more, first_words-constant, take_more_set, take_all)

@@ -1,8 +1,7 @@
 -- The values of nodes by place, over more and more of the nodes.
-use Rattle.std.proofs.Common.{◌≡◌, ◌≢◌, set, get_or-set_other, get_or-set_same, ℕ, zero, suc, ◌+◌, ◌<◌, ◌≤◌, ◌==◌, nat_lt, List, [], ◌∷◌, ◌++◌, Some, true, false, length, slice_get, if◌then◌else◌, refl, sym, ◌∙◌, ap, arith, add-one, eq-eqb, inl, inr}
+use Rattle.std.proofs.Common.{◌≡◌, ◌≢◌, set, get_or-set_other, get_or-set_same, ℕ, zero, suc, ◌+◌, ◌<◌, ◌≤◌, ◌==◌, List, [], ◌∷◌, ◌++◌, Some, true, false, length, slice_get, if◌then◌else◌, refl, sym, ◌∙◌, ap, arith, add-one, eq-eqb, inl, inr}
 use Rattle.std.proofs.lemmas.Bool.{cases_lt, lt-ltb, le-ltb}
 use Rattle.std.proofs.lemmas.Bool.Decides.{eqb_tells}
-use Rattle.std.proofs.lemmas.Grind.{common_steps}
 use Rattle.knox_words.specs.Bits.{Bits}
 use Rattle.circuit_nodes.specs.declared.node.Arg.{Arg}
 use Rattle.circuit_nodes.specs.declared.node.Node.{Node}
@@ -49,12 +48,6 @@ fewer g ns room i j le f k h =
 -- the node at a place gives its level
 pub stands : (g : Given) (ns : List Node) (i k : ℕ) (n : Node) → k < i → slice_get ns k ≡ Some n → value_at g ns i k ≡ level g (value_at g ns k) n
 stands g ns i k n h e = value_at-at g ns i k h ∙ ap (level_or_zero g (value_at g ns k)) e
-
-
-
-
-
-
 
 -- what a filled scratch area holds
 pub room_word-filled : (g : Given) (ns : List Node) (room : List Bits) (i k : ℕ) → IsFilled g ns room i → room_word room i k ≡ value_at g ns i k 0

@@ -2,6 +2,7 @@
 ghost use Rattle.std.specs.Prelude.{◌≡◌, ◌≤◌, ◌<◌, ◌+◌, length, slice_get, take};
 ghost use Rattle.circuit_nodes.specs.Sources.{source_of, put_word, put_words, base_value, Steps};
 ghost use Rattle.circuit_nodes.specs.Ticks.{first_words};
+ghost use Rattle.circuit_nodes.specs.Values.{words_from};
 
 use crate::eval::{node_at, room_arg};
 use crate::node::Node;
@@ -9,12 +10,14 @@ use knox_words::Word;
 
 /// What stands under the writes of an array: the words of the state from a place on, or the same
 /// word at each index.
+#[derive(Clone, Copy)]
 pub(crate) enum Base {
     State(u32),
     Same(Word),
 }
 
 /// The base of an array, and how many writes over it a chain holds.
+#[derive(Clone, Copy)]
 pub(crate) struct Found {
     pub(crate) base: Base,
     pub(crate) writes: usize,
@@ -107,15 +110,23 @@ pub(crate) fn put_writes(nodes: &[Node], room: &[Word], chain: &[u32], array: &m
     }
 }
 
-/// The first words of a base.
+/// The words of the state from a place on.
 #[tactic(auto, using(crate::proofs::Chains::base_steps))]
-pub(crate) fn put_base(state: &[Word], base: &Base, array: &mut [Word])
-    ensures { array.new ≡ first_words (base_value state.now base.now) (length array.old) }
+fn put_state(state: &[Word], first: u32, array: &mut [Word])
+    ensures { array.new ≡ first_words (words_from state.now first) (length array.old) }
 {
     for k in 0..array.len() {
-        array[k] = match base {
-            Base::State(first) => knox_words::word_far(state, *first, k as u128),
-            Base::Same(word) => *word,
-        };
+        array[k] = knox_words::word_far(state, first, k as u128);
+    }
+}
+
+/// The first words of a base.
+#[tactic(auto, using(crate::proofs::Chains::base_steps))]
+pub(crate) fn put_base(state: &[Word], base: Base, array: &mut [Word])
+    ensures { array.new ≡ first_words (base_value state.now base) (length array.old) }
+{
+    match base {
+        Base::State(first) => put_state(state, first, array),
+        Base::Same(word) => array.fill(word),
     }
 }

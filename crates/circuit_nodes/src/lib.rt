@@ -7,8 +7,8 @@
 mod chain;
 mod eval;
 mod node;
-//mod tick;
+mod tick;
 
 pub use eval::{arg_words, fill};
 pub use node::{Arg, Next, Node};
-//pub use tick::advance;
+pub use tick::advance;
