@@ -11,4 +11,4 @@ mod tick;
 
 pub use eval::{arg_words, fill};
 pub use node::{Arg, Next, Node};
-pub use tick::advance;
+pub use tick::{advance, has_words};

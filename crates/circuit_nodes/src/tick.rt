@@ -1,5 +1,5 @@
 //! A tick in place: no array is copied where a cell keeps its own words but for some writes.
-ghost use Rattle.std.specs.Prelude.{◌≡◌, ◌≤◌, ◌<◌, ◌+◌, length, slice_get, take, Some};
+ghost use Rattle.std.specs.Prelude.{◌≡◌, ◌↔◌, IsTrue, ◌≤◌, ◌<◌, ◌+◌, length, slice_get, take, Some};
 ghost use Rattle.circuit_nodes.specs.Values.{given, value_at, IsFilled};
 ghost use Rattle.circuit_nodes.specs.Ticks.{size, words_in, ticked};
 ghost use Rattle.circuit_nodes.specs.Sources.{is_own, all_taken, put_cell, StagedCell, Staged};
@@ -32,6 +32,21 @@ fn size(next: Next) -> usize
         Next::Word(_) => 1,
         Next::Array { words, .. } => words as usize,
     }
+}
+
+/// Whether the cells have so many words together.
+pub fn has_words(nexts: &[Next], words: usize) -> bool
+    ensures { IsTrue result ↔ words ≡ words_in nexts.now }
+{
+    let mut left = words;
+    for k in 0..nexts.len() {
+        let size = size(next_at(nexts, k));
+        if size > left {
+            return false;
+        }
+        left -= size;
+    }
+    left == 0
 }
 
 /// A cell of which the words of those up to it end at `end`, and where its own words begin.
