@@ -1,0 +1,4 @@
+pub mod Values
+pub mod Ticks
+pub mod Hops
+pub mod Sources
