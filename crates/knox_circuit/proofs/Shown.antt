@@ -12,7 +12,8 @@ use Rattle.knox_circuit.specs.declared.table.Tables.{Tables}
 use Rattle.circuit_lines.specs.Sorts.{output_operand}
 use Rattle.knox_circuit.specs.Ports.{output_port, outputs_of, one_or_none, output_operands}
 use Rattle.circuit_lines.specs.Nodes.{node_width, number_of}
-use Rattle.knox_circuit.specs.Meaning.{Value, word}
+use Rattle.circuit_nodes.specs.Values.{Value}
+use Rattle.knox_circuit.specs.Meaning.{word}
 use Rattle.knox_circuit.specs.Form.{is_width, plain_width, is_shape, IsInForm}
 use Rattle.knox_circuit.specs.Whole.{IsTabled}
 use Rattle.knox_circuit.specs.Circuit.{cells_of, values, output_words, state_widths, input_widths, output_widths}

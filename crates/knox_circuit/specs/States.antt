@@ -54,11 +54,6 @@ abbrev pub cell_of : List Cell → ℕ → Option Cell
 cell_of [] n = None
 cell_of (c ∷ cs) n = if c.number == n then Some c else cell_of cs n
 
--- the first word of the cell with a number
-abbrev pub first_of : List Cell → ℕ → Option ℕ
-first_of [] n = None
-first_of (c ∷ cs) n = if c.number == n then Some c.first else first_of cs n
-
 -- a state in line order: whether it is a cell, and the operand of its `init`
 pub record StateLine : Type 0 where
   pub number : ℕ
