@@ -1,5 +1,5 @@
 -- The word of a state's cell has the state's width.
-use Rattle.std.proofs.Common.{◌≡◌, ℕ, suc, ◌<◌, ℤ, List, [], ◌∷◌, ◌++◌, Option, Some, None, Bool, true, IsTrue, is_none, is_some, length, reverse, replicate, refl, sym, ◌∙◌, ap, subst, arith, eq-eqb, inl, inr, if◌then◌else◌}
+use Rattle.std.proofs.Common.{◌≡◌, ℕ, suc, ◌<◌, ℤ, List, [], ◌∷◌, ◌++◌, Option, Some, None, Bool, true, IsTrue, is_none, is_some, length, reverse, replicate, refl, sym, ◌∙◌, ap, add-zero, ◌+◌, subst, arith, eq-eqb, inl, inr, if◌then◌else◌}
 use Rattle.std.specs.List.{list_all}
 use Rattle.std.proofs.lemmas.Bool.Decides.{eqb_tells}
 use Rattle.std.proofs.lemmas.List.{append-nil, append_assoc}
@@ -13,12 +13,11 @@ use Rattle.knox_circuit.specs.declared.table.Tables.{Tables}
 use Rattle.circuit_lines.specs.Sorts.{shape_of, sort_width, sort_named, state_sort}
 use Rattle.circuit_lines.specs.Nodes.{node_width, next_of, size}
 use Rattle.knox_circuit.specs.Meaning.{given}
-use Rattle.knox_circuit.specs.States.{words_in, first_of, state_cell, if_some, cell_among, cells_among, state_among, states_among}
-use Rattle.knox_circuit.specs.Circuit.{cells_of, held_by, values, state_widths, input_widths}
+use Rattle.knox_circuit.specs.States.{words_in, cell_of, state_cell, if_some, cell_among, cells_among, state_among, states_among}
+use Rattle.knox_circuit.specs.Circuit.{cells_of, state_value, held_from, held_by, values, state_widths, input_widths}
 use Rattle.knox_circuit.specs.Form.{is_width, last_number, IsInForm}
-use Rattle.knox_circuit.specs.Resolved.{state_node, node_word}
 use Rattle.knox_circuit.specs.Whole.{is_fed, IsTabled}
-use Rattle.knox_circuit.proofs.Bridge.{and-left, and-right, is_none-none, held-node}
+use Rattle.knox_circuit.proofs.Tests.{and-left, and-right, is_none-none}
 use Rattle.knox_circuit.proofs.Earlier.{differs}
 use Rattle.knox_circuit.proofs.Formed.{form_index}
 use Rattle.knox_circuit.proofs.Evaluated.{flat-words}
@@ -55,46 +54,47 @@ among-flat all (l ∷ before) f =
 
 -- the cell of a state by number
 
-first-front : (cs ds : List Cell) (n k : ℕ) → first_of cs n ≡ Some k → first_of (cs ++ ds) n ≡ Some k
-first-front [] ds n k e = cc
-first-front (c ∷ cs) ds n k e = elim (eqb_tells c.number n) [
-  | inl p ↦ ap (λ (b : Bool). if b then Some c.first else first_of (cs ++ ds) n) p.0 ∙ (sym (ap (λ (b : Bool). if b then Some c.first else first_of cs n) p.0) ∙ e)
+cell-front : (cs ds : List Cell) (n : ℕ) (k : Cell) → cell_of cs n ≡ Some k → cell_of (cs ++ ds) n ≡ Some k
+cell-front [] ds n k e = cc
+cell-front (c ∷ cs) ds n k e = elim (eqb_tells c.number n) [
+  | inl p ↦ ap (λ (b : Bool). if b then Some c else cell_of (cs ++ ds) n) p.0 ∙ (sym (ap (λ (b : Bool). if b then Some c else cell_of cs n) p.0) ∙ e)
   | inr p ↦
-      ap (λ (b : Bool). if b then Some c.first else first_of (cs ++ ds) n) p.0
-      ∙ first-front cs ds n k (sym (ap (λ (b : Bool). if b then Some c.first else first_of cs n) p.0) ∙ e)
+      ap (λ (b : Bool). if b then Some c else cell_of (cs ++ ds) n) p.0
+      ∙ cell-front cs ds n k (sym (ap (λ (b : Bool). if b then Some c else cell_of cs n) p.0) ∙ e)
 ]
 
-first-back : (cs ds : List Cell) (n : ℕ) → first_of cs n ≡ None → first_of (cs ++ ds) n ≡ first_of ds n
-first-back [] ds n e = refl
-first-back (c ∷ cs) ds n e = elim (eqb_tells c.number n) [
-  | inl p ↦ let bad : Some c.first ≡ None = sym (ap (λ (b : Bool). if b then Some c.first else first_of cs n) p.0) ∙ e in cc
+cell-back : (cs ds : List Cell) (n : ℕ) → cell_of cs n ≡ None → cell_of (cs ++ ds) n ≡ cell_of ds n
+cell-back [] ds n e = refl
+cell-back (c ∷ cs) ds n e = elim (eqb_tells c.number n) [
+  | inl p ↦ let bad : Some c ≡ None = sym (ap (λ (b : Bool). if b then Some c else cell_of cs n) p.0) ∙ e in cc
   | inr p ↦
-      ap (λ (b : Bool). if b then Some c.first else first_of (cs ++ ds) n) p.0
-      ∙ first-back cs ds n (sym (ap (λ (b : Bool). if b then Some c.first else first_of cs n) p.0) ∙ e)
+      ap (λ (b : Bool). if b then Some c else cell_of (cs ++ ds) n) p.0
+      ∙ cell-back cs ds n (sym (ap (λ (b : Bool). if b then Some c else cell_of cs n) p.0) ∙ e)
 ]
 
-one-none : (all before : List Line) (l : Line) (first : ℕ) (o : Option ℕ) (n : ℕ) → (l.number ≡ n → ⊥) → first_of (cell_among all before l first o) n ≡ None
+one-none : (all before : List Line) (l : Line) (first : ℕ) (o : Option ℕ) (n : ℕ) → (l.number ≡ n → ⊥) → cell_of (cell_among all before l first o) n ≡ None
 one-none all before l first None n ne = refl
 one-none all before l first (Some s) n ne = by_next (next_of all l.number) where
-  by_next : (v : Option ℤ) → first_of (if_some v (state_cell before l s first ∷ [])) n ≡ None
+  by_next : (v : Option ℤ) → cell_of (if_some v (state_cell before l s first ∷ [])) n ≡ None
   by_next None = refl
-  by_next (Some v) = ap (λ (b : Bool). if b then Some first else None) (differs l.number n ne)
+  by_next (Some v) = ap (λ (b : Bool). if b then Some (state_cell before l s first) else None) (differs l.number n ne)
 
-first-none : (all past : List Line) → IsInForm past → (n : ℕ) → last_number past < n → first_of (cells_among all past) n ≡ None
-first-none all [] f n h = refl
-first-none all (l ∷ before) f n h =
+cell-none : (all past : List Line) → IsInForm past → (n : ℕ) → last_number past < n → cell_of (cells_among all past) n ≡ None
+cell-none all [] f n h = refl
+cell-none all (l ∷ before) f n h =
     let cs = cells_among all before in
     let up : last_number before < l.number = line-above before l f.0 in
     let above : last_number before < n = omega (arith, up, h) in
     let ne : (l.number ≡ n → ⊥) = (λ q. omega (arith, q, h)) in
-    first-back cs (cell_among all before l (words_in cs) (state_sort l.shape)) n (first-none all before f.1 n above)
+    cell-back cs (cell_among all before l (words_in cs) (state_sort l.shape)) n (cell-none all before f.1 n above)
     ∙ one-none all before l (words_in cs) (state_sort l.shape) n ne
 
--- the place of a state's word, and that the word there has the state's width
+-- the cell of a state, and that its word has the state's width
 record IsHeld (all past : List Line) (n s : ℕ) : Type 0 where
-  place : ℕ
-  first : first_of (cells_among all past) n ≡ Some place
-  word : (more : List ℕ) (words : List Bits) → fit (state_widths (cells_among all past) ++ more) words ≡ true → fits (sort_width past s) (word_at words place) ≡ true
+  cell : Cell
+  flat : cell.index ≡ None
+  found : cell_of (cells_among all past) n ≡ Some cell
+  word : (more : List ℕ) (words : List Bits) → fit (state_widths (cells_among all past) ++ more) words ≡ true → fits (sort_width past s) (word_at words cell.first) ≡ true
 
 own-cell : (all before : List Line) (l : Line) (s first : ℕ) → state_sort l.shape ≡ Some s → list_all is_fed (state_among all before l.number (state_sort l.shape)) ≡ true → cell_among all before l first (state_sort l.shape) ≡ state_cell before l s first ∷ []
 own-cell all before l s first e h =
@@ -116,10 +116,11 @@ held-here all before l s f is fed =
     ap state_widths made ∙ (widths-append cs (c ∷ []) ∙ ap (λ (z : List ℕ). state_widths cs ++ z) flat) in
     let count : length (state_widths cs) ≡ words_in cs = flat-lengths cs (among-flat all before f.1) in
     record {
-      place = words_in cs;
-      first = ap (λ (z : List Cell). first_of z l.number) made
-          ∙ (first-back cs (c ∷ []) l.number (first-none all before f.1 l.number up)
-          ∙ ap (λ (b : Bool). if b then Some (words_in cs) else None) (eq-eqb l.number l.number refl));
+      cell = c;
+      flat = form_index before s f.1;
+      found = ap (λ (z : List Cell). cell_of z l.number) made
+          ∙ (cell-back cs (c ∷ []) l.number (cell-none all before f.1 l.number up)
+          ∙ ap (λ (b : Bool). if b then Some c else None) (eq-eqb l.number l.number refl));
       word = λ more words h.
           let split : fit (state_widths cs ++ (sort_width before s ∷ more)) words ≡ true =
           subst (λ (ws : List ℕ). fit ws words ≡ true) (ap (λ (z : List ℕ). z ++ more) widths ∙ append_assoc (state_widths cs) (sort_width before s ∷ []) more) h in
@@ -134,12 +135,13 @@ held-grows all before l n s f e old =
     let ds = cell_among all before l (words_in cs) (state_sort l.shape) in
     let wide : IsTrue (is_width (sort_width before s)) = sort-inside before f.1 n (shape.State s) s e refl in
     record {
-      place = old.place;
-      first = first-front cs ds n old.place old.first;
+      cell = old.cell;
+      flat = old.flat;
+      found = cell-front cs ds n old.cell old.found;
       word = λ more words h.
           let split : fit (state_widths cs ++ (state_widths ds ++ more)) words ≡ true =
           subst (λ (ws : List ℕ). fit ws words ≡ true) (ap (λ (z : List ℕ). z ++ more) (widths-append cs ds) ∙ append_assoc (state_widths cs) (state_widths ds) more) h in
-          subst (λ (k : ℕ). fits k (word_at words old.place) ≡ true) (sym (sort-grows before l f s wide)) (old.word (state_widths ds ++ more) words split);
+          subst (λ (k : ℕ). fits k (word_at words old.cell.first) ≡ true) (sym (sort-grows before l f s wide)) (old.word (state_widths ds ++ more) words split);
     }
 
 held-at : (all past : List Line) → IsInForm past → list_all is_fed (states_among all past) ≡ true → (n s : ℕ) → shape_of past n ≡ Some (shape.State s) → IsHeld all past n s
@@ -156,15 +158,18 @@ held-at all (l ∷ before) f r n s e =
           held-grows all before l n s f there (held-at all before f.1 parts.0 n s there)
     ]
 
-held-word : (cells : List Cell) (words : List Bits) (n k w : ℕ) → first_of cells n ≡ Some k → fits w (word_at words k) ≡ true → fits w (held_by cells words n 0) ≡ true
-held-word cells words n k w e h =
-    let is : held_by cells words n 0 ≡ word_at words k = held-node cells words [] (word_at []) n ∙ ap (λ (o : Option ℕ). node_word (record { inputs = []; state = words }) (word_at []) (state_node o)) e in
+held-word : (cells : List Cell) (words : List Bits) (n w : ℕ) (c : Cell) → c.index ≡ None → cell_of cells n ≡ Some c → fits w (word_at words c.first) ≡ true → fits w (held_by cells words n 0) ≡ true
+held-word cells words n w c flat e h =
+    let is : held_by cells words n 0 ≡ word_at words c.first =
+    ap (λ (o : Option Cell). held_from words o 0) e
+    ∙ (ap (λ (o : Option ℕ). state_value o (λ i. word_at words (c.first + i)) 0) flat
+    ∙ ap (word_at words) (add-zero c.first)) in
     subst (λ (b : Bits). fits w b ≡ true) (sym is) h
 
 held-fits : (lines : List Line) (t : Tables) (state : List Bits) → IsTabled (reverse lines) t → fit (state_widths (cells_of lines)) state ≡ true → (n s : ℕ) → shape_of (reverse lines) n ≡ Some (shape.State s) → fits (sort_width (reverse lines) s) (held_by (cells_of lines) state n 0) ≡ true
 held-fits lines t state h fs n s e =
     let at = held-at (reverse lines) (reverse lines) h.form h.complete n s e in
-    held-word (cells_of lines) state n at.place (sort_width (reverse lines) s) at.first
+    held-word (cells_of lines) state n (sort_width (reverse lines) s) at.cell at.flat at.found
     (at.word [] state (subst (λ (ws : List ℕ). fit ws state ≡ true) (sym (append-nil (state_widths (cells_of lines)))) fs))
 
 pub values-fit : (lines : List Line) (t : Tables) (state inputs : List Bits) → IsTabled (reverse lines) t → fit (state_widths (cells_of lines)) state ≡ true → fit (input_widths lines) inputs ≡ true → (n : ℕ) → IsTrue (is_width (node_width (reverse lines) n)) → fits (node_width (reverse lines) n) (values lines state inputs n 0) ≡ true

@@ -16,7 +16,7 @@ use Rattle.knox_circuit.specs.Resolved.{first_word}
 use Rattle.knox_circuit.specs.Whole.{is_fed}
 use Rattle.knox_circuit.proofs.Earlier.{earlier-more, earlier-next}
 use Rattle.knox_circuit.proofs.Formed.{earlier-all, slice_get-some}
-use Rattle.knox_circuit.proofs.Bridge.{and-left, and-right}
+use Rattle.knox_circuit.proofs.Tests.{and-left, and-right}
 
 pub words-more : (all lines : List Line) (k : ℕ) (l : Line) (old new : List (Option Bits)) → slice_get lines k ≡ Some l → old ≡ map (first_word all) (states_among all (earlier lines k)) → new ≡ old ++ map (first_word all) (state_among all (earlier lines k) l.number (state_sort l.shape)) → new ≡ map (first_word all) (states_among all (earlier lines (k + 1)))
 words-more all lines k l old new is had pushed =

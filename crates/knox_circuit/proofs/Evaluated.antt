@@ -5,8 +5,8 @@ use Rattle.std.proofs.lemmas.List.{length-map, length-reverse}
 use Rattle.std.proofs.lemmas.List.Sums.{sum_by-append}
 use Rattle.knox_words.specs.Bits.{Bits}
 use Rattle.circuit_lines.specs.declared.line.Line.{Line}
-use Rattle.knox_circuit.specs.declared.node.Arg.{Arg}
-use Rattle.knox_circuit.specs.declared.node.Node.{Node}
+use Rattle.circuit_nodes.specs.declared.node.Arg.{Arg}
+use Rattle.circuit_nodes.specs.declared.node.Node.{Node}
 use Rattle.knox_circuit.specs.declared.circuit.Cell.{Cell}
 use Rattle.knox_circuit.specs.declared.circuit.Port.{Port}
 use Rattle.knox_circuit.specs.declared.table.Tables.{Tables}
@@ -15,10 +15,13 @@ use Rattle.knox_circuit.specs.Ports.{outputs_of, output_operands, output_port, o
 use Rattle.knox_circuit.specs.States.{words_in}
 use Rattle.circuit_lines.specs.Nodes.{size}
 use Rattle.knox_circuit.specs.Circuit.{cells_of, values, output_words, state_after_tick, state_widths, input_widths}
-use Rattle.knox_circuit.specs.Resolved.{Lists, lists, no_place, arg_word, at_place, nodes_of, output_args, next_args}
+use Rattle.knox_circuit.specs.Resolved.{no_place, nodes_of, output_args, next_args}
+use Rattle.circuit_nodes.specs.Values.{Value, Given, given, arg_word, value_at}
 use Rattle.knox_circuit.specs.Whole.{IsTabled}
-use Rattle.knox_circuit.proofs.Places.{at_place-none}
-use Rattle.knox_circuit.proofs.Bridge.{value-place, output-words, next-words, length-nodes_of, and-left, and-right, is_none-none}
+use Rattle.circuit_nodes.proofs.Places.{value_at-none}
+use Rattle.knox_circuit.proofs.Formed.{form-words}
+use Rattle.knox_circuit.proofs.Bridge.{value-place, output-words, next-words, length-nodes_of}
+use Rattle.knox_circuit.proofs.Tests.{and-left, and-right, is_none-none}
 
 one-port : (before : List Line) (l : Line) (o : Option ℤ) → length (output_port before l o) ≡ length (one_or_none o)
 one-port before l None = refl
@@ -65,35 +68,35 @@ lines-words lines t h = flat-words (cells_of lines) (cells-flat lines t h)
 
 pub ruleset whole_lengths = (nodes-length, next-length, outputs-length)
 
-same-places : (lines : List Line) (t : Tables) (g : Lists) → IsTabled (reverse lines) t → at_place g t.nodes (length t.nodes) ≡ at_place g (nodes_of (cells_of lines) (reverse lines)) (length (reverse lines))
+same-places : (lines : List Line) (t : Tables) (g : Given) → IsTabled (reverse lines) t → value_at g t.nodes (length t.nodes) ≡ value_at g (nodes_of (cells_of lines) (reverse lines)) (length (reverse lines))
 same-places lines t g h =
-    ap (λ (ns : List Node). at_place g ns (length ns)) (h.nodes ∙ ap (λ (cs : List Cell). nodes_of cs (reverse lines)) h.cells)
-    ∙ ap (at_place g (nodes_of (cells_of lines) (reverse lines))) (length-nodes_of (cells_of lines) (reverse lines))
+    ap (λ (ns : List Node). value_at g ns (length ns)) (h.nodes ∙ ap (λ (cs : List Cell). nodes_of cs (reverse lines)) h.cells)
+    ∙ ap (value_at g (nodes_of (cells_of lines) (reverse lines))) (length-nodes_of (cells_of lines) (reverse lines))
 
-pub outputs-are : (lines : List Line) (t : Tables) (inputs state : List Bits) → IsTabled (reverse lines) t → map (arg_word (at_place (lists inputs state) t.nodes (length t.nodes))) t.output_args ≡ output_words lines state inputs
+pub outputs-are : (lines : List Line) (t : Tables) (inputs state : List Bits) → IsTabled (reverse lines) t → map (arg_word (value_at (given inputs state) t.nodes (length t.nodes))) t.output_args ≡ output_words lines state inputs
 outputs-are lines t inputs state h =
     let all = reverse lines in
-    let g = lists inputs state in
-    let by = at_place g (nodes_of (cells_of lines) all) (length all) in
-    ap (λ (args : List Arg). map (arg_word (at_place g t.nodes (length t.nodes))) args) h.output_args
-    ∙ (ap (λ (at : ℕ → Bits). map (arg_word at) (output_args all (output_operands all))) (same-places lines t g h)
-    ∙ output-words (values lines state inputs) by all (value-place g (cells_of lines) all h.form) (output_operands all))
+    let g = given inputs state in
+    let by = value_at g (nodes_of (cells_of lines) all) (length all) in
+    ap (λ (args : List Arg). map (arg_word (value_at g t.nodes (length t.nodes))) args) h.output_args
+    ∙ (ap (λ (at : ℕ → Value). map (arg_word at) (output_args all (output_operands all))) (same-places lines t g h)
+    ∙ output-words (values lines state inputs) by all (value-place g (cells_of lines) all (form-words all h.form) h.few) (output_operands all))
 
-pub next-are : (lines : List Line) (t : Tables) (inputs state : List Bits) → IsTabled (reverse lines) t → map (arg_word (at_place (lists inputs state) t.nodes (length t.nodes))) t.next_args ≡ state_after_tick lines state inputs
+pub next-are : (lines : List Line) (t : Tables) (inputs state : List Bits) → IsTabled (reverse lines) t → map (arg_word (value_at (given inputs state) t.nodes (length t.nodes))) t.next_args ≡ state_after_tick lines state inputs
 next-are lines t inputs state h =
     let all = reverse lines in
-    let g = lists inputs state in
-    let by = at_place g (nodes_of (cells_of lines) all) (length all) in
+    let g = given inputs state in
+    let by = value_at g (nodes_of (cells_of lines) all) (length all) in
     let few : length all ≤ 1000000 = h.few in
     let past : length all ≤ no_place = omega arith in
-    ap (λ (args : List Arg). map (arg_word (at_place g t.nodes (length t.nodes))) args) (h.next_args ∙ ap (next_args all) h.cells)
-    ∙ (ap (λ (at : ℕ → Bits). map (arg_word at) (next_args all (cells_of lines))) (same-places lines t g h)
-    ∙ next-words (values lines state inputs) by all (value-place g (cells_of lines) all h.form) (at_place-none g (nodes_of (cells_of lines) all) (length all) no_place past) (cells_of lines) (cells-flat lines t h))
+    ap (λ (args : List Arg). map (arg_word (value_at g t.nodes (length t.nodes))) args) (h.next_args ∙ ap (next_args all) h.cells)
+    ∙ (ap (λ (at : ℕ → Value). map (arg_word at) (next_args all (cells_of lines))) (same-places lines t g h)
+    ∙ next-words (values lines state inputs) by all (value-place g (cells_of lines) all (form-words all h.form) h.few) (ap (λ (z : Value). z 0) (value_at-none g (nodes_of (cells_of lines) all) (length all) no_place past)) (cells_of lines) (cells-flat lines t h))
 
-pub outputs-from : (lines : List Line) (t : Tables) (inputs state ins st : List Bits) (ns : List Node) (args : List Arg) → IsTabled (reverse lines) t → ns ≡ t.nodes → args ≡ t.output_args → ins ≡ inputs → st ≡ state → map (arg_word (at_place (lists ins st) ns (length ns))) args ≡ output_words lines state inputs
+pub outputs-from : (lines : List Line) (t : Tables) (inputs state ins st : List Bits) (ns : List Node) (args : List Arg) → IsTabled (reverse lines) t → ns ≡ t.nodes → args ≡ t.output_args → ins ≡ inputs → st ≡ state → map (arg_word (value_at (given ins st) ns (length ns))) args ≡ output_words lines state inputs
 outputs-from lines t inputs state ins st ns args h a b c d = rw (a, b, c, d) (outputs-are lines t inputs state h)
 
-pub next-from : (lines : List Line) (t : Tables) (inputs state ins st : List Bits) (ns : List Node) (args : List Arg) → IsTabled (reverse lines) t → ns ≡ t.nodes → args ≡ t.next_args → ins ≡ inputs → st ≡ state → map (arg_word (at_place (lists ins st) ns (length ns))) args ≡ state_after_tick lines state inputs
+pub next-from : (lines : List Line) (t : Tables) (inputs state ins st : List Bits) (ns : List Node) (args : List Arg) → IsTabled (reverse lines) t → ns ≡ t.nodes → args ≡ t.next_args → ins ≡ inputs → st ≡ state → map (arg_word (value_at (given ins st) ns (length ns))) args ≡ state_after_tick lines state inputs
 next-from lines t inputs state ins st ns args h a b c d = rw (a, b, c, d) (next-are lines t inputs state h)
 
 pub ruleset evaluations = (outputs-are, next-are)

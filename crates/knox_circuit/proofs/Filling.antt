@@ -8,7 +8,7 @@ use Rattle.knox_circuit.specs.declared.circuit.Cell.{Cell}
 use Rattle.knox_circuit.specs.Circuit.{state_widths}
 use Rattle.knox_circuit.specs.Power.{first_keep}
 use Rattle.knox_circuit.specs.Filled.{known_words, filled, unknown_widths, unknown_cells}
-use Rattle.knox_circuit.proofs.Bridge.{and-left, and-right, is_none-none}
+use Rattle.knox_circuit.proofs.Tests.{and-left, and-right, is_none-none}
 
 -- known words
 

@@ -22,10 +22,11 @@ use Rattle.knox_circuit.specs.declared.circuit.Port.{Port}
 use Rattle.circuit_lines.specs.Sorts.{shape_of, sort_width, sort_named, input_sort, literal}
 use Rattle.knox_circuit.specs.Ports.{input_port, inputs_of}
 use Rattle.circuit_lines.specs.Nodes.{width_named, shape_width, node_width}
-use Rattle.knox_circuit.specs.Meaning.{Value, Given, word, level, value_of}
+use Rattle.circuit_nodes.specs.Values.{Value}
+use Rattle.knox_circuit.specs.Meaning.{Given, word, level, value_of}
 use Rattle.knox_circuit.specs.Form.{is_width, plain_width, are_digits, constant_fits, fits_un, fits_bin, is_shape, IsInForm}
 use Rattle.knox_circuit.specs.Resolved.{literal_of}
-use Rattle.knox_circuit.proofs.Bridge.{and-left, and-right}
+use Rattle.knox_circuit.proofs.Tests.{and-left, and-right}
 use Rattle.knox_circuit.proofs.Formed.{digits-plain}
 use Rattle.knox_circuit.proofs.Sized.{line-shape, shape-grows, sort-grows, sort-inside, found-grows, own-sort, own-node, some-node}
 

@@ -1,5 +1,5 @@
 -- Lines of the form, and the tables of more and more lines.
-use Rattle.std.proofs.Common.{◌≡◌, ℕ, zero, suc, ◌+◌, ◌<◌, ◌≤◌, nat_le, nat_lt, ◌^◌, min, ℤ, pos, negsuc, List, [], ◌∷◌, ◌++◌, Option, Some, None, Bool, true, false, IsTrue, is_none, length, length-append, take, reverse, slice_get, refl, sym, ◌∙◌, ap, subst, arith, lit<, inl, inr, if◌then◌else◌}
+use Rattle.std.proofs.Common.{◌≡◌, ℕ, zero, suc, ◌+◌, ◌<◌, ◌≤◌, nat_le, nat_lt, ◌^◌, min, ℤ, pos, negsuc, List, [], ◌∷◌, ◌++◌, Option, Some, None, true, false, IsTrue, is_none, length, length-append, take, reverse, slice_get, refl, sym, ◌∙◌, ap, subst, arith, lit<, inl, inr}
 use Rattle.std.proofs.lemmas.Bool.{cases_lt}
 use Rattle.std.proofs.lemmas.Bool.Decides.{eqb_tells}
 use Rattle.std.proofs.lemmas.List.{map-append, reverse-append, length-reverse}
@@ -17,7 +17,7 @@ use Rattle.circuit_lines.specs.declared.line.Line.{Line}
 use Rattle.circuit_lines.specs.declared.line.Shape.{Shape}
 use Rattle.circuit_lines.specs.declared.line.Shape.TheVariants as shape
 use Rattle.knox_circuit.specs.declared.circuit.Cell.{Cell}
-use Rattle.circuit_lines.specs.Sorts.{earlier, decimal, shape_of, words_width, sort_width, sort_index, indices_width, input_sort, state_sort, output_operand}
+use Rattle.circuit_lines.specs.Sorts.{earlier, decimal, shape_of, sort_width, sort_index, input_sort, state_sort, output_operand}
 use Rattle.knox_circuit.specs.declared.naming.Kind.TheVariants as kind
 use Rattle.knox_circuit.specs.Ports.{name_among, input_port, inputs_of, output_port, outputs_of, output_operands, one_or_none}
 use Rattle.circuit_lines.specs.Nodes.{number_of, node_width, next_of, size}
@@ -25,7 +25,8 @@ use Rattle.knox_circuit.specs.States.{words_in, if_some, state_cell, cell_among,
 use Rattle.knox_circuit.specs.Form.{all_digits, are_digits, constant_fits, last_number, is_shape, is_line, is_width, plain_width, IsInForm}
 use Rattle.knox_circuit.specs.Resolved.{arg_of, output_args}
 use Rattle.knox_circuit.proofs.Earlier.{earlier-next, earlier-more}
-use Rattle.knox_circuit.proofs.Bridge.{and-left, and-right}
+use Rattle.knox_circuit.proofs.Tests.{and-left, and-right}
+use Rattle.knox_circuit.proofs.Words.{is_of_words, AreOfWords, is_array, no-array, index-none}
 
 take-whole : (lines : List Line) → take (length lines) lines ≡ lines
 take-whole lines = grind (arith, common_steps)
@@ -105,36 +106,19 @@ args-more lines all k l is =
 
 pub ruleset table_steps = (earlier-all, inputs-more, outputs-more, args-more)
 
-pub is_array : Option Shape → Bool
-is_array (Some (shape.Array i e)) = true
-is_array _ = false
+shape-words : (before : List Line) (s : Shape) → IsTrue (is_shape before s) → IsTrue (is_of_words s)
+shape-words before (shape.Array i e) f = cc
+shape-words before (shape.Read s a i) f = cc
+shape-words before (shape.Write s a i w) f = cc
+shape-words before _ f = refl
 
-indices-none : (before : List Line) (o : Option Shape) → is_array o ≡ false → indices_width before o ≡ None
-unfolding is_array
-indices-none before None h = refl
-indices-none before (Some (shape.Array i e)) h = cc
-indices-none before (Some _) h = refl
-
--- one more line changes no sort of words
-pub words-same : (before : List Line) (l : Line) (o : Option Shape) → is_array o ≡ false → words_width (l ∷ before) o ≡ words_width before o
-unfolding is_array
-words-same before l None h = refl
-words-same before l (Some (shape.Bitvec w)) h = refl
-words-same before l (Some (shape.Array i e)) h = cc
-words-same before l (Some _) h = refl
-
-pub not-array : (before : List Line) (s : Shape) → IsTrue (is_shape before s) → is_array (Some s) ≡ false
-unfolding is_array
-not-array before (shape.Array i e) f = cc
-not-array before _ f = refl
+-- lines of the form speak of no arrays
+pub form-words : (past : List Line) → IsInForm past → AreOfWords past
+form-words [] f = tt
+form-words (l ∷ before) f = (shape-words before l.shape (and-right _ _ f.0), form-words before f.1)
 
 pub shape-in_form : (past : List Line) → IsInForm past → (n : ℕ) → is_array (shape_of past n) ≡ false
-unfolding is_array
-shape-in_form [] f n = refl
-shape-in_form (l ∷ before) f n = elim (eqb_tells l.number n) [
-  | inl p ↦ ap (λ (b : Bool). is_array (if b then Some l.shape else shape_of before n)) p.0 ∙ not-array before l.shape (and-right _ _ f.0)
-  | inr p ↦ ap (λ (b : Bool). is_array (if b then Some l.shape else shape_of before n)) p.0 ∙ shape-in_form before f.1 n
-]
+shape-in_form past f n = no-array past (form-words past f) n
 
 form-down : (lines : List Line) (i j : ℕ) → i ≤ j → j ≤ length lines → IsInForm (earlier lines j) → IsInForm (earlier lines i)
 form-down lines i zero le within f = let e : i ≡ zero = omega arith in subst (λ z. IsInForm (earlier lines z)) (sym e) f
@@ -153,13 +137,12 @@ form-earlier : (lines : List Line) (i : ℕ) → i ≤ length lines → IsInForm
 form-earlier lines i le f = form-down lines i (length lines) le (omega arith) f
 
 pub form_index : (past : List Line) (s : ℕ) → IsInForm past → sort_index past s ≡ None
-form_index past s f = indices-none past (shape_of past s) (shape-in_form past f s)
+form_index past s f = index-none past (form-words past f) s
 
 -- no sort of the form has indices
 pub no_index : (lines : List Line) (k : ℕ) (s : ℕ) → IsInForm (reverse lines) → k ≤ length lines → sort_index (earlier lines k) s ≡ None
 no_index lines k s f le =
-    indices-none (earlier lines k) (shape_of (earlier lines k) s)
-    (shape-in_form (earlier lines k) (form-earlier lines k le (subst IsInForm (sym (earlier-all lines)) f)) s)
+    form_index (earlier lines k) s (form-earlier lines k le (subst IsInForm (sym (earlier-all lines)) f))
 
 pub slice_get_in : (lines : List Line) (k : ℕ) (l : Line) → slice_get lines k ≡ Some l → k < length lines
 slice_get_in lines k l is = slice_get_within lines k l is

@@ -13,7 +13,7 @@ use Rattle.circuit_lines.specs.Nodes.{names, named_or, init_of}
 use Rattle.knox_circuit.specs.Form.{is_constant_shape, is_constant, last_number, is_shape, IsInForm}
 use Rattle.knox_circuit.specs.Resolved.{literal_of, literal_operand}
 use Rattle.knox_circuit.specs.Whole.{is_fed}
-use Rattle.knox_circuit.proofs.Bridge.{and-left, and-right}
+use Rattle.knox_circuit.proofs.Tests.{and-left, and-right}
 use Rattle.knox_circuit.proofs.Earlier.{differs}
 use Rattle.knox_circuit.proofs.Formed.{form_index}
 use Rattle.knox_circuit.proofs.Sized.{line-above, line-shape, found-below}

@@ -1,5 +1,6 @@
+pub mod Tests
 pub mod Earlier
-pub mod Places
+pub mod Words
 pub mod Bridge
 pub mod Formed
 pub mod Lists

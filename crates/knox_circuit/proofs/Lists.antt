@@ -4,31 +4,31 @@ use Rattle.circuit_lines.specs.declared.line.Line.{Line}
 use Rattle.knox_circuit.specs.declared.circuit.Cell.{Cell}
 use Rattle.circuit_lines.specs.Sorts.{earlier, literal, input_sort}
 use Rattle.knox_circuit.specs.Ports.{input_port, inputs_of}
-use Rattle.knox_circuit.specs.States.{first_of}
+use Rattle.knox_circuit.specs.States.{cell_of}
 use Rattle.knox_circuit.specs.Resolved.{node_of, nodes_of, literal_of}
 use Rattle.knox_circuit.proofs.Earlier.{differs, earlier-more}
 
-first-own : (cells : List Cell) (k : ℕ) (c : Cell) (n : ℕ) → slice_get cells k ≡ Some c → c.number ≡ n → first_of (drop k cells) n ≡ Some c.first
-first-own [] k c n is e = cc
-first-own (x ∷ xs) zero c n is e = let same : x ≡ c = cc in rw (same, eq-eqb c.number n e) refl
-first-own (x ∷ xs) (suc k) c n is e = first-own xs k c n is e
+cell-own : (cells : List Cell) (k : ℕ) (c : Cell) (n : ℕ) → slice_get cells k ≡ Some c → c.number ≡ n → cell_of (drop k cells) n ≡ Some c
+cell-own [] k c n is e = cc
+cell-own (x ∷ xs) zero c n is e = let same : x ≡ c = cc in rw (same, eq-eqb c.number n e) refl
+cell-own (x ∷ xs) (suc k) c n is e = cell-own xs k c n is e
 
-first-past : (cells : List Cell) (k : ℕ) (c : Cell) (n : ℕ) → slice_get cells k ≡ Some c → (c.number ≡ n → ⊥) → first_of (drop (suc k) cells) n ≡ first_of (drop k cells) n
-first-past [] k c n is ne = cc
-first-past (x ∷ xs) zero c n is ne = let same : x ≡ c = cc in rw (same, differs c.number n ne) refl
-first-past (x ∷ xs) (suc k) c n is ne = first-past xs k c n is ne
+cell-past : (cells : List Cell) (k : ℕ) (c : Cell) (n : ℕ) → slice_get cells k ≡ Some c → (c.number ≡ n → ⊥) → cell_of (drop (suc k) cells) n ≡ cell_of (drop k cells) n
+cell-past [] k c n is ne = cc
+cell-past (x ∷ xs) zero c n is ne = let same : x ≡ c = cc in rw (same, differs c.number n ne) refl
+cell-past (x ∷ xs) (suc k) c n is ne = cell-past xs k c n is ne
 
-pub first_own : (cells : List Cell) (k : ℕ) (c : Cell) (n : ℕ) → slice_get cells k ≡ Some c → c.number ≡ n → first_of (drop k cells) n ≡ Some c.first
-first_own cells k c n is e = first-own cells k c n is e
+pub cell_own : (cells : List Cell) (k : ℕ) (c : Cell) (n : ℕ) → slice_get cells k ≡ Some c → c.number ≡ n → cell_of (drop k cells) n ≡ Some c
+cell_own cells k c n is e = cell-own cells k c n is e
 
-pub first_past : (cells : List Cell) (k : ℕ) (c : Cell) (n : ℕ) → slice_get cells k ≡ Some c → (c.number ≡ n → ⊥) → first_of (drop (k + 1) cells) n ≡ first_of (drop k cells) n
-first_past cells k c n is ne = rw add-one (first-past cells k c n is ne)
+pub cell_past : (cells : List Cell) (k : ℕ) (c : Cell) (n : ℕ) → slice_get cells k ≡ Some c → (c.number ≡ n → ⊥) → cell_of (drop (k + 1) cells) n ≡ cell_of (drop k cells) n
+cell_past cells k c n is ne = rw add-one (cell-past cells k c n is ne)
 
-pub first_end : (cells : List Cell) (n : ℕ) → first_of (drop (length cells) cells) n ≡ None
-first_end [] n = refl
-first_end (x ∷ xs) n = first_end xs n
+pub cell_end : (cells : List Cell) (n : ℕ) → cell_of (drop (length cells) cells) n ≡ None
+cell_end [] n = refl
+cell_end (x ∷ xs) n = cell_end xs n
 
-pub ruleset first_steps = (first_own, first_past, first_end)
+pub ruleset cell_steps = (cell_own, cell_past, cell_end)
 
 pub nodes-more : (cells : List Cell) (lines : List Line) (k : ℕ) (l : Line) → slice_get lines k ≡ Some l → nodes_of cells (earlier lines (k + 1)) ≡ nodes_of cells (earlier lines k) ++ node_of cells (earlier lines k) l.number l.shape ∷ []
 nodes-more cells lines k l is = ap (nodes_of cells) (earlier-more lines k l is)

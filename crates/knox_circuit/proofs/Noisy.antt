@@ -16,7 +16,7 @@ use Rattle.knox_circuit.specs.Filled.{known_words, unknown_widths, unknown_cells
 use Rattle.knox_circuit.specs.Form.{IsInForm}
 use Rattle.knox_circuit.specs.Resolved.{literal_operand, first_word}
 use Rattle.knox_circuit.specs.Whole.{is_fed, IsTabled}
-use Rattle.knox_circuit.proofs.Bridge.{and-left}
+use Rattle.knox_circuit.proofs.Tests.{and-left}
 use Rattle.knox_circuit.proofs.Earlier.{differs}
 use Rattle.knox_circuit.proofs.Formed.{one-more_cell}
 use Rattle.knox_circuit.proofs.Evaluated.{flat-words, cells-flat, state-widths}

@@ -11,7 +11,7 @@ use Rattle.knox_circuit.specs.Circuit.{cells_of, state_widths}
 use Rattle.knox_circuit.specs.Power.{first_keep, states_of, noise_widths, state_after_power, persistent_words, persistent_widths, spread_words}
 use Rattle.knox_circuit.specs.Filled.{known_words, filled, unknown_widths}
 use Rattle.knox_circuit.specs.Whole.{IsTabled}
-use Rattle.knox_circuit.proofs.Bridge.{and-left, and-right}
+use Rattle.knox_circuit.proofs.Tests.{and-left, and-right}
 use Rattle.knox_circuit.proofs.Powered.{power-are, first-length}
 use Rattle.knox_circuit.proofs.Evaluated.{lines-words, cells-flat}
 use Rattle.knox_circuit.proofs.Celled.{flat-lengths}

@@ -9,7 +9,8 @@ use Rattle.circuit_lines.specs.declared.line.Shape.{Shape}
 use Rattle.circuit_lines.specs.declared.line.Shape.TheVariants as shape
 use Rattle.knox_circuit.specs.declared.table.Tables.{Tables}
 use Rattle.circuit_lines.specs.Sorts.{literal, state_sort}
-use Rattle.knox_circuit.specs.Meaning.{Value, Given, given, zero_word, constant, operand, level, value_of}
+use Rattle.circuit_nodes.specs.Values.{Value, zero_word, constant}
+use Rattle.knox_circuit.specs.Meaning.{Given, given, operand, level, value_of}
 use Rattle.knox_circuit.specs.States.{StateLine, words_in, state_among, states_among, cell_among, cells_among, if_some, state_cell}
 use Rattle.circuit_lines.specs.Nodes.{next_of}
 use Rattle.knox_circuit.specs.Circuit.{Circuit, cells_of, value_words}
@@ -17,7 +18,7 @@ use Rattle.knox_circuit.specs.Power.{first_keep, fresh_words, noise_left, with_s
 use Rattle.knox_circuit.specs.Filled.{known_words, filled}
 use Rattle.knox_circuit.specs.Resolved.{literal_of, literal_operand, first_word}
 use Rattle.knox_circuit.specs.Whole.{is_fed, IsTabled}
-use Rattle.knox_circuit.proofs.Bridge.{and-left}
+use Rattle.knox_circuit.proofs.Tests.{and-left}
 use Rattle.knox_circuit.proofs.Evaluated.{lines-words}
 use Rattle.knox_circuit.proofs.Initial.{IsInitial, IsPlain, AllPlain, fed-parts, states-plain}
 

@@ -1,5 +1,5 @@
 -- Output words have the widths of their lines' nodes.
-use Rattle.std.proofs.Common.{◌≡◌, ℕ, ℤ, pos, negsuc, List, [], ◌∷◌, ◌++◌, Option, Some, None, Bool, true, IsTrue, map, reverse, refl, sym, ◌∙◌, ap, subst}
+use Rattle.std.proofs.Common.{◌≡◌, ℕ, ℤ, pos, negsuc, List, [], ◌∷◌, Option, Some, None, true, IsTrue, map, reverse, refl, sym, ap, subst}
 use Rattle.std.proofs.lemmas.List.{map-append}
 use Rattle.knox_words.specs.Bits.{Bits}
 use Rattle.knox_words.specs.Lists.{fit, fits}
@@ -12,7 +12,8 @@ use Rattle.knox_circuit.specs.declared.table.Tables.{Tables}
 use Rattle.circuit_lines.specs.Sorts.{output_operand}
 use Rattle.knox_circuit.specs.Ports.{output_port, outputs_of, one_or_none, output_operands}
 use Rattle.circuit_lines.specs.Nodes.{node_width, number_of}
-use Rattle.knox_circuit.specs.Meaning.{Value, word}
+use Rattle.circuit_nodes.specs.Values.{Value}
+use Rattle.knox_circuit.specs.Meaning.{word}
 use Rattle.knox_circuit.specs.Form.{is_width, plain_width, is_shape, IsInForm}
 use Rattle.knox_circuit.specs.Whole.{IsTabled}
 use Rattle.knox_circuit.specs.Circuit.{cells_of, values, output_words, state_widths, input_widths, output_widths}

@@ -8,9 +8,10 @@ use Rattle.circuit_lines.specs.declared.line.Shape.TheVariants as shape
 use Rattle.circuit_lines.specs.Sorts.{shape_of, words_width, sort_width, sort_named, next_pair, init_pair}
 use Rattle.circuit_lines.specs.Nodes.{width_named, shape_width, node_width, names, named_or, next_of, init_of}
 use Rattle.knox_circuit.specs.Form.{is_width, plain_width, last_number, pair_fits, is_shape, is_line, IsInForm}
-use Rattle.knox_circuit.proofs.Bridge.{and-left, and-right}
+use Rattle.knox_circuit.proofs.Tests.{and-left, and-right}
 use Rattle.knox_circuit.proofs.Earlier.{differs}
-use Rattle.knox_circuit.proofs.Formed.{shape-in_form, words-same}
+use Rattle.knox_circuit.proofs.Words.{words-same}
+use Rattle.knox_circuit.proofs.Formed.{shape-in_form}
 
 pub line-above : (before : List Line) (l : Line) → IsTrue (is_line before l) → last_number before < l.number
 line-above before l h = ltb-true _ _ (and-right _ _ (and-left _ _ h))

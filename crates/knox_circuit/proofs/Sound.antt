@@ -16,7 +16,8 @@ use Rattle.knox_circuit.specs.declared.table.Tables.{Tables}
 use Rattle.circuit_lines.specs.Sorts.{shape_of, sort_width, sort_named, input_sort, state_sort}
 use Rattle.knox_circuit.specs.Ports.{input_port, inputs_of}
 use Rattle.circuit_lines.specs.Nodes.{shape_width, node_width, width_named, next_of, init_of}
-use Rattle.knox_circuit.specs.Meaning.{Value, given, operand}
+use Rattle.circuit_nodes.specs.Values.{Value}
+use Rattle.knox_circuit.specs.Meaning.{given, operand}
 use Rattle.knox_circuit.specs.States.{StateLine, words_in, state_cell, if_some, cell_among, cells_among, state_among, states_among}
 use Rattle.knox_circuit.specs.Circuit.{cells_of, values, operand_or_zero, next_words, state_after_tick, state_widths, input_widths}
 use Rattle.knox_circuit.specs.Power.{first_keep}
@@ -24,7 +25,7 @@ use Rattle.knox_circuit.specs.Filled.{known_words}
 use Rattle.knox_circuit.specs.Form.{is_width, IsInForm}
 use Rattle.knox_circuit.specs.Resolved.{literal_of, literal_operand, first_word}
 use Rattle.knox_circuit.specs.Whole.{is_fed, IsTabled}
-use Rattle.knox_circuit.proofs.Bridge.{and-left}
+use Rattle.knox_circuit.proofs.Tests.{and-left}
 use Rattle.knox_circuit.proofs.Formed.{form_index}
 use Rattle.knox_circuit.proofs.Initial.{fed-parts}
 use Rattle.knox_circuit.proofs.Filling.{KnownFits, OldFits, AllKnown}

@@ -3,7 +3,8 @@ use Rattle.std.specs.Prelude.{ℕ, ◌+◌, ◌^◌, zero, suc, ℤ, List, [], �
 use Rattle.knox_words.specs.Bits.{Bits, word_at}
 use Rattle.circuit_lines.specs.declared.line.Line.{Line}
 use Rattle.knox_circuit.specs.declared.circuit.Cell.{Cell}
-use Rattle.knox_circuit.specs.Meaning.{Value, given, zero_word, constant, operand, word, value_of}
+use Rattle.circuit_nodes.specs.Values.{Value, zero_word, constant}
+use Rattle.knox_circuit.specs.Meaning.{given, operand, word, value_of}
 use Rattle.knox_circuit.specs.States.{cells_among, cell_of, words_in}
 use Rattle.circuit_lines.specs.Nodes.{next_of, size}
 use Rattle.knox_circuit.specs.Ports.{output_operands, inputs_of, outputs_of}

@@ -3,23 +3,15 @@
 -- Standard: BTOR2 (Niemetz, Preiner, Wolf and Biere, CAV 2018). The project's own: a negative
 -- operand is the complement of its node.
 use Rattle.std.specs.Prelude.{ℕ, ◌+◌, ◌==◌, ℤ, pos, negsuc, List, [], ◌∷◌, length, unwrap_or, if◌then◌else◌}
-use Rattle.knox_words.specs.Bits.{Bits, bits, ite_value, word_at}
+use Rattle.knox_words.specs.Bits.{Bits, ite_value, word_at}
 use Rattle.knox_words.specs.Ops.{op1_value, op2_or, slice_or, uext_or, sext_or}
 use Rattle.knox_words.specs.declared.op.Op1.TheVariants.{Not}
 use Rattle.circuit_lines.specs.declared.line.Shape.{Shape}
 use Rattle.circuit_lines.specs.declared.line.Shape.TheVariants as shape
 use Rattle.circuit_lines.specs.declared.line.Line.{Line}
 use Rattle.circuit_lines.specs.Sorts.{literal}
+use Rattle.circuit_nodes.specs.Values.{Value, zero_word, constant, written}
 use Rattle.knox_circuit.specs.Ports.{inputs_of}
-
-abbrev pub zero_word : Bits
-zero_word = bits 1 0
-
-abbrev pub Value : Type 0
-Value = ℕ → Bits
-
-abbrev pub constant : Bits → Value
-constant w k = w
 
 -- the words of the inputs in line order, and the values of the states by number
 pub record Given : Type 0 where
@@ -37,9 +29,6 @@ operand at (negsuc n) = λ k. op1_value Not (at (n + 1) k)
 -- the word of an operand that is no array
 abbrev pub word : (ℕ → Value) → ℤ → Bits
 word at a = operand at a 0
-
-abbrev pub written : Value → ℕ → Bits → Value
-written v i w k = if k == i then w else v k
 
 -- what a line gives, over what the lines before it give
 abbrev pub level : Given → List Line → (ℕ → Value) → ℕ → Shape → Value

@@ -7,7 +7,8 @@ use Rattle.knox_words.specs.Bits.{Bits, word_at, word_or}
 use Rattle.circuit_lines.specs.declared.line.Line.{Line}
 use Rattle.knox_circuit.specs.declared.circuit.Cell.{Cell}
 use Rattle.circuit_lines.specs.Sorts.{state_sort}
-use Rattle.knox_circuit.specs.Meaning.{Value, given, zero_word, constant, operand, value_of}
+use Rattle.circuit_nodes.specs.Values.{Value, zero_word, constant}
+use Rattle.knox_circuit.specs.Meaning.{given, operand, value_of}
 use Rattle.knox_circuit.specs.States.{StateLine, words_in, state_cell, if_none, cells_among, states_among}
 use Rattle.circuit_lines.specs.Nodes.{size, next_of, init_of}
 use Rattle.knox_words.specs.Lists.{fit}

@@ -1,20 +1,18 @@
--- Lines with their operands by place, and what they give.
-use Rattle.std.specs.Prelude.{◌≡◌, ℕ, zero, suc, ◌+◌, ◌<◌, ◌==◌, ℤ, pos, negsuc, List, [], ◌∷◌, ◌++◌, length, slice_get, Option, Some, None, map, false, true, if◌then◌else◌}
-use Rattle.knox_words.specs.Bits.{Bits, ite_value, word_at}
-use Rattle.knox_words.specs.Ops.{op1_value, op2_or}
-use Rattle.knox_words.specs.declared.op.Op1.TheVariants.{Not}
+-- The nodes of lines, with their operands by place.
+use Rattle.std.specs.Prelude.{ℕ, ◌+◌, ◌==◌, ℤ, pos, negsuc, List, [], ◌∷◌, ◌++◌, length, Option, Some, None, map, false, true, if◌then◌else◌}
+use Rattle.knox_words.specs.Bits.{Bits}
 use Rattle.circuit_lines.specs.declared.line.Shape.{Shape}
 use Rattle.circuit_lines.specs.declared.line.Shape.TheVariants as shape
 use Rattle.circuit_lines.specs.declared.line.Line.{Line}
-use Rattle.knox_circuit.specs.declared.node.Arg.{Arg}
-use Rattle.knox_circuit.specs.declared.node.Node.{Node}
-use Rattle.knox_circuit.specs.declared.node.Node.TheVariants as node
+use Rattle.circuit_lines.specs.Sorts.{literal, sort_index}
+use Rattle.circuit_lines.specs.Nodes.{number_of, next_of}
+use Rattle.circuit_nodes.specs.declared.node.Arg.{Arg}
+use Rattle.circuit_nodes.specs.declared.node.Node.{Node}
+use Rattle.circuit_nodes.specs.declared.node.Node.TheVariants as node
+use Rattle.circuit_nodes.specs.Values.{zero_word}
 use Rattle.knox_circuit.specs.declared.circuit.Cell.{Cell}
-use Rattle.circuit_lines.specs.Sorts.{literal}
-use Rattle.knox_circuit.specs.Meaning.{zero_word}
 use Rattle.knox_circuit.specs.Ports.{inputs_of}
-use Rattle.knox_circuit.specs.States.{StateLine, first_of}
-use Rattle.circuit_lines.specs.Nodes.{next_of}
+use Rattle.knox_circuit.specs.States.{StateLine, cell_of}
 
 -- a place that no line has
 abbrev pub no_place : ℕ
@@ -25,20 +23,40 @@ abbrev pub place_of : List Line → ℕ → ℕ
 place_of [] n = no_place
 place_of (l ∷ before) n = if l.number == n then length before else place_of before n
 
+-- the place of a word's node, and whether an operand is its complement
 abbrev pub arg_of : List Line → ℤ → Arg
 arg_of before (pos n) = record { node = place_of before n; complement = false }
 arg_of before (negsuc n) = record { node = place_of before (n + 1); complement = true }
 
-abbrev pub state_node : Option ℕ → Node
+-- the place of an array's node, which has no complement
+abbrev pub array_place : List Line → ℤ → ℕ
+array_place before a = place_of before (number_of a)
+
+-- the node of a state whose words begin at a place: a word, or an array where it has indices
+abbrev pub held_node : Option ℕ → ℕ → Node
+held_node None first = node.State first
+held_node (Some i) first = node.Array first
+
+abbrev pub state_node : Option Cell → Node
 state_node None = node.Const zero_word
-state_node (Some first) = node.State first
+state_node (Some c) = held_node c.index c.first
+
+-- a choice between two words, or between two arrays where the sort has indices
+abbrev pub choice_node : Option ℕ → List Line → ℤ → ℤ → ℤ → Node
+choice_node None before c a b = node.Ite (arg_of before c) (arg_of before a) (arg_of before b)
+choice_node (Some i) before c a b = node.Pick (arg_of before c) (array_place before a) (array_place before b)
 
 abbrev pub operator_node : List Cell → List Line → ℕ → Shape → Node
 operator_node cells before n (shape.Input s) = node.Input (length (inputs_of before))
-operator_node cells before n (shape.State s) = state_node (first_of cells n)
+operator_node cells before n (shape.State s) = state_node (cell_of cells n)
 operator_node cells before n (shape.Un o s a) = node.Un o (arg_of before a)
 operator_node cells before n (shape.Bin o s a b) = node.Bin o (arg_of before a) (arg_of before b)
-operator_node cells before n (shape.Ite s c a b) = node.Ite (arg_of before c) (arg_of before a) (arg_of before b)
+operator_node cells before n (shape.Slice s a h l) = node.Slice (arg_of before a) h l
+operator_node cells before n (shape.Uext s a m) = node.Uext (arg_of before a) m
+operator_node cells before n (shape.Sext s a m) = node.Sext (arg_of before a) m
+operator_node cells before n (shape.Ite s c a b) = choice_node (sort_index before s) before c a b
+operator_node cells before n (shape.Read s a i) = node.Read (array_place before a) (arg_of before i)
+operator_node cells before n (shape.Write s a i w) = node.Write (array_place before a) (arg_of before i) (arg_of before w)
 operator_node cells before n _ = node.Const zero_word
 
 abbrev pub node_or : Option Bits → Node → Node
@@ -52,39 +70,6 @@ node_of cells before n s = node_or (literal before s) (operator_node cells befor
 abbrev pub nodes_of : List Cell → List Line → List Node
 nodes_of cells [] = []
 nodes_of cells (l ∷ before) = nodes_of cells before ++ node_of cells before l.number l.shape ∷ []
-
--- the words of the inputs and of the states
-pub record Lists : Type 0 where
-  pub inputs : List Bits
-  pub state : List Bits
-
-abbrev pub lists : List Bits → List Bits → Lists
-lists inputs state = record { inputs = inputs; state = state }
-
-abbrev pub arg_word : (ℕ → Bits) → Arg → Bits
-arg_word at a = if a.complement then op1_value Not (at a.node) else at a.node
-
--- the word of a node, over the words of the nodes before it
-abbrev pub node_word : Lists → (ℕ → Bits) → Node → Bits
-node_word g at (node.Const w) = w
-node_word g at (node.Input p) = word_at g.inputs p
-node_word g at (node.State p) = word_at g.state p
-node_word g at (node.Un o a) = op1_value o (arg_word at a)
-node_word g at (node.Bin o a b) = op2_or o (arg_word at a) (arg_word at b)
-node_word g at (node.Ite c a b) = ite_value (arg_word at c) (arg_word at a) (arg_word at b)
-
-abbrev pub word_of_node : Lists → (ℕ → Bits) → Option Node → Bits
-word_of_node g at None = zero_word
-word_of_node g at (Some n) = node_word g at n
-
--- the word of the node at place k, over the first i nodes
-abbrev pub at_place : Lists → List Node → ℕ → ℕ → Bits
-at_place g ns zero k = zero_word
-at_place g ns (suc i) k = if k == i then word_of_node g (at_place g ns i) (slice_get ns i) else at_place g ns i k
-
--- the first i places hold the words of their nodes
-abbrev pub IsFilled : Lists → List Node → List Bits → ℕ → Type 0
-IsFilled g ns room i = (k : ℕ) → k < i → word_at room k ≡ at_place g ns i k
 
 abbrev pub arg_or_zero : List Line → Option ℤ → Arg
 arg_or_zero all None = record { node = no_place; complement = false }

@@ -10,7 +10,7 @@ ghost use Rattle.knox_circuit.specs.Whole.{is_complete, IsTabled};
 
 use crate::noise::{self, NoiseCells};
 use crate::table::Tables;
-use crate::{eval, first, power};
+use crate::{first, power};
 use circuit_lines::{BtorFault, Line, Why};
 use knox_words::{Word, Words};
 use sqlite_items::Items;
@@ -195,8 +195,8 @@ impl Circuit {
         let inputs = i.words.as_slice();
         let state = s.words.as_slice();
         let words = room.nodes.as_mut_slice();
-        eval::fill(nodes, inputs, state, words);
-        eval::arg_words(
+        circuit_nodes::fill(nodes, inputs, state, words);
+        circuit_nodes::arg_words(
             nodes,
             inputs,
             state,
@@ -228,8 +228,8 @@ impl Circuit {
         let state = s.words.as_slice();
         let words = room.nodes.as_mut_slice();
         let next = room.words.as_mut_slice();
-        eval::fill(nodes, inputs, state, words);
-        eval::arg_words(
+        circuit_nodes::fill(nodes, inputs, state, words);
+        circuit_nodes::arg_words(
             nodes,
             inputs,
             state,

@@ -5,13 +5,11 @@
 
 mod circuit;
 mod draft;
-mod eval;
 mod first;
 mod form;
 mod laws;
 mod look;
 mod naming;
-mod node;
 mod noise;
 mod power;
 mod table;

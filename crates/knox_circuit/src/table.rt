@@ -1,19 +1,20 @@
 //! What a circuit keeps beside its lines, made from them once.
 ghost use Rattle.std.specs.Prelude.{◌≡◌, ◌≤◌, ◌<◌, ◌+◌, ◌++◌, if◌then◌else◌, length, map, reverse, slice_get, is_none, is_some, true, Some, IfOk, IfSome, IfErr, OnOk, MatchResult, IsTrue};
 ghost use Rattle.std.specs.List.{list_all};
+ghost use Rattle.std.specs.Option.{option_copied};
 ghost use Rattle.knox_words.specs.Bits.{word_or};
-ghost use Rattle.circuit_lines.specs.Sorts.{earlier, literal, input_sort, state_sort, output_operand};
+ghost use Rattle.circuit_lines.specs.Sorts.{earlier, literal, input_sort, state_sort, output_operand, sort_index};
 ghost use Rattle.knox_circuit.specs.Ports.{port, input_port, inputs_of, output_port, outputs_of, output_operands, one_or_none};
-ghost use Rattle.knox_circuit.specs.States.{first_of, cell_among, cells_among, bare_among, bares_among, state_among, states_among, state_cell, words_in};
+ghost use Rattle.knox_circuit.specs.States.{cell_of, cell_among, cells_among, bare_among, bares_among, state_among, states_among, state_cell, words_in};
 ghost use Rattle.circuit_lines.specs.Nodes.{next_of};
-ghost use Rattle.knox_circuit.specs.Resolved.{place_of, arg_of, arg_or_zero, state_node, operator_node, node_of, nodes_of, output_args, next_args, first_word, literal_of, literal_operand};
+ghost use Rattle.knox_circuit.specs.Resolved.{arg_of, array_place, arg_or_zero, held_node, state_node, choice_node, operator_node, node_of, nodes_of, output_args, next_args, first_word, literal_of, literal_operand};
 ghost use Rattle.knox_circuit.specs.Form.{IsInForm, is_shape, is_line};
 
 use crate::circuit::{Cell, Port};
 use crate::naming::{self, Kind};
-use crate::node::{Arg, Node};
 use crate::{form, look};
 use circuit_lines::{Line, Shape};
+use circuit_nodes::{Arg, Node};
 use knox_words::Word;
 use sqlite_items::Items;
 use std::alloc::{AllocError, Global};
@@ -278,26 +279,64 @@ fn cell_at(cells: &[Cell], at: usize) -> &Cell
     &cells[at]
 }
 
-/// The first word of the cell with a number.
-#[tactic(auto, using(crate::proofs::Lists::first_steps))]
-fn first_of(cells: &[Cell], number: u32) -> Option<u32>
-    ensures { result ≡ first_of cells.now number }
+/// The cell with a number.
+#[tactic(auto, using(crate::proofs::Lists::cell_steps))]
+fn cell_of(cells: &[Cell], number: u32) -> Option<&Cell>
+    ensures { option_copied result ≡ cell_of cells.now number }
 {
     for k in 0..cells.len() {
         let cell = cell_at(cells, k);
         if cell.number == number {
-            return Some(cell.first);
+            return Some(cell);
         }
     }
     None
 }
 
-fn state_node(first: Option<u32>) -> Node
-    ensures { result ≡ state_node first }
+fn held_node(index: Option<u8>, first: u32) -> Node
+    ensures { result ≡ held_node index first }
 {
-    match first {
+    match index {
+        None => Node::State(first),
+        Some(_) => Node::Array(first),
+    }
+}
+
+fn state_node(cell: Option<&Cell>) -> Node
+    ensures { result ≡ state_node (option_copied cell.entry) }
+{
+    match cell {
         None => Node::Const(knox_words::zero()),
-        Some(first) => Node::State(first),
+        Some(cell) => held_node(cell.index, cell.first),
+    }
+}
+
+/// The place of an array among the first `upto` lines.
+fn array_place(lines: &[Line], upto: usize, operand: i64) -> u32
+    requires upto { upto ≤ length lines.now }
+    requires few { length lines.now ≤ 1000000 }
+    ensures { result ≡ array_place (earlier lines.now upto) operand }
+{
+    look::place_at(lines, upto, look::number_of(operand))
+}
+
+/// The node of a choice between two words, or between two arrays.
+fn choice_node(lines: &[Line], at: usize, sort: u32, c: i64, a: i64, b: i64) -> Node
+    requires at { at ≤ length lines.now }
+    requires few { length lines.now ≤ 1000000 }
+    ensures { result ≡ choice_node (sort_index (earlier lines.now at) sort) (earlier lines.now at) c a b }
+{
+    match look::sort_index(lines, at, sort) {
+        None => Node::Ite(
+            arg_of(lines, at, c),
+            arg_of(lines, at, a),
+            arg_of(lines, at, b),
+        ),
+        Some(_) => Node::Pick(
+            arg_of(lines, at, c),
+            array_place(lines, at, a),
+            array_place(lines, at, b),
+        ),
     }
 }
 
@@ -305,19 +344,23 @@ fn state_node(first: Option<u32>) -> Node
 fn operator_node(cells: &[Cell], lines: &[Line], at: usize, line: &Line, inputs: u32) -> Node
     requires at { at ≤ length lines.now }
     requires few { length lines.now ≤ 1000000 }
-    requires form { IsTrue (is_shape (earlier lines.now at) line.now.shape) }
     requires inputs { inputs ≡ length (inputs_of (earlier lines.now at)) }
     ensures { result ≡ operator_node cells.now (earlier lines.now at) line.now.number line.now.shape }
 {
     match &line.shape {
         Shape::Input(_) => Node::Input(inputs),
-        Shape::State(_) => state_node(first_of(cells, line.number)),
+        Shape::State(_) => state_node(cell_of(cells, line.number)),
         Shape::Un(o, _, a) => Node::Un(*o, arg_of(lines, at, *a)),
         Shape::Bin(o, _, a, b) => Node::Bin(*o, arg_of(lines, at, *a), arg_of(lines, at, *b)),
-        Shape::Ite(_, c, a, b) => Node::Ite(
-            arg_of(lines, at, *c),
-            arg_of(lines, at, *a),
-            arg_of(lines, at, *b),
+        Shape::Slice(_, a, high, low) => Node::Slice(arg_of(lines, at, *a), *high, *low),
+        Shape::Uext(_, a, n) => Node::Uext(arg_of(lines, at, *a), *n),
+        Shape::Sext(_, a, n) => Node::Sext(arg_of(lines, at, *a), *n),
+        Shape::Ite(sort, c, a, b) => choice_node(lines, at, *sort, *c, *a, *b),
+        Shape::Read(_, a, i) => Node::Read(array_place(lines, at, *a), arg_of(lines, at, *i)),
+        Shape::Write(_, a, i, w) => Node::Write(
+            array_place(lines, at, *a),
+            arg_of(lines, at, *i),
+            arg_of(lines, at, *w),
         ),
         _ => Node::Const(knox_words::zero()),
     }

@@ -16,7 +16,7 @@ use Rattle.knox_circuit.specs.Ports.{inputs_of, outputs_of, output_operands}
 use Rattle.knox_circuit.specs.Resolved.{nodes_of, output_args, next_args, first_word}
 use Rattle.knox_circuit.specs.States.{cells_among, bares_among, states_among}
 use Rattle.knox_circuit.specs.Whole.{IsTabled}
-use Rattle.knox_circuit.proofs.Bridge.{and-left, and-right}
+use Rattle.knox_circuit.proofs.Tests.{and-left, and-right}
 use Rattle.knox_circuit.proofs.Noisy.{cells-single, cells-widths}
 use Rattle.knox_circuit.proofs.Persisting.{persistent-fit, power-kept, spread-back, spread-fit}
 use Rattle.knox_circuit.proofs.Renewed.{factory-fits, power-fits}

@@ -1,5 +1,5 @@
 use Rattle.std.proofs.Common.{◌≡◌, ◌++◌, List, Option, ℤ, length, sym, ◌∙◌, ap}
-use Rattle.knox_circuit.specs.declared.node.Arg.{Arg}
+use Rattle.circuit_nodes.specs.declared.node.Arg.{Arg}
 use Rattle.circuit_lines.specs.Sorts.{earlier}
 use Rattle.knox_circuit.specs.Ports.{one_or_none, output_operands}
 use Rattle.knox_circuit.specs.Resolved.{output_args}
