@@ -49,7 +49,11 @@ abbrev pub unless_broken : Option Why → Option Line → Result (Option Line) W
 unless_broken None line = Ok line
 unless_broken (Some w) line = Err w
 
+-- the line that tokens mean, or the first rule that they break
+abbrev pub line_or_fault : ℕ → ℕ → Tokens → Result (Option Line) Why
+line_or_fault at last ts = unless_broken (first_broken at last ts) (line_of at ts)
+
 -- what the tokens of a text line say
 abbrev pub said : ℕ → ℕ → Tokens → Result (Option Line) Why
 said at last [] = Ok None
-said at last (t ∷ ts) = unless_broken (first_broken at last (t ∷ ts)) (line_of at (t ∷ ts))
+said at last (t ∷ ts) = line_or_fault at last (t ∷ ts)

@@ -30,10 +30,12 @@ abbrev pub node : Bool → ℕ → ℤ
 node true n = if nat_le n (2 ^ 63) then neg_ℤ (pos n) else pos (2 ^ 63 - 1)
 node false n = pos (min n (2 ^ 63 - 1))
 
+abbrev pub signed : Bool → List ℕ → Option ℤ
+signed negative digits = natural digits >>= λ n. Some (node negative n)
+
 abbrev pub node_number : List ℕ → Option ℤ
 node_number [] = None
-node_number (b ∷ bytes) =
-    if b == 45 then (natural bytes >>= λ n. Some (node true n)) else (natural (b ∷ bytes) >>= λ n. Some (node false n))
+node_number (b ∷ bytes) = if b == 45 then signed true bytes else signed false (b ∷ bytes)
 
 -- ---- the next token as a number, and the tokens behind it
 

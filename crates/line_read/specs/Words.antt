@@ -21,7 +21,12 @@ uncommented (t ∷ ts) = if begins_with 59 t then [] else t ∷ uncommented ts
 abbrev pub tokens_of : List ℕ → Tokens
 tokens_of line = uncommented (bare_tokens line)
 
+-- a meaning, and the tokens that are left
+abbrev pub leaving : {A : Type 0} → Tokens → Option A → Option (A × Tokens)
+leaving ts None = None
+leaving ts (Some a) = Some (a, ts)
+
 -- what the next token means, and the tokens behind it
 abbrev pub next_as : {A : Type 0} → (List ℕ → Option A) → Tokens → Option (A × Tokens)
 next_as meaning [] = None
-next_as meaning (t ∷ ts) = meaning t >>= λ a. Some (a, ts)
+next_as meaning (t ∷ ts) = leaving ts (meaning t)

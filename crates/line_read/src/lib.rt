@@ -5,5 +5,14 @@
 
 mod examples;
 mod keyword;
+mod laws;
+mod numbers;
+mod operands;
+mod reading;
+#[cfg(test)]
+mod tests;
+mod tokens;
 
 pub use examples::{faults_as_expected, forms_as_expected, lines_as_expected};
+pub use laws::lines_say_one_thing;
+pub use reading::read_line;
