@@ -200,7 +200,11 @@ fn node_word(nodes: &[Node], inputs: &[Word], state: &[Word], room: &[Word], at:
             arg_before(nodes, inputs, state, room, at, *b),
         ),
         Node::Slice(a, high, low_bit) => {
-            slice_word(arg_before(nodes, inputs, state, room, at, *a), *high, *low_bit)
+            slice_word(
+                arg_before(nodes, inputs, state, room, at, *a),
+                *high,
+                *low_bit,
+            )
         }
         Node::Uext(a, n) => uext_word(arg_before(nodes, inputs, state, room, at, *a), *n),
         Node::Sext(a, n) => sext_word(arg_before(nodes, inputs, state, room, at, *a), *n),
