@@ -4,7 +4,7 @@ ghost use Rattle.circuit_nodes.specs.Sources.{source_of, put_word, put_words, ba
 ghost use Rattle.circuit_nodes.specs.Ticks.{first_words};
 ghost use Rattle.circuit_nodes.specs.Values.{words_from};
 
-use crate::eval::{node_at, room_arg};
+use crate::eval::{by_parts, node_at, room_arg};
 use crate::node::Node;
 use knox_words::Word;
 
@@ -37,15 +37,15 @@ fn next_step(nodes: &[Node], room: &[Word], at: usize) -> Step
     ensures { Steps room.now nodes.now at result }
 {
     match node_at(nodes, at) {
-        Node::Array(first) => Step::Stop(Base::State(first)),
+        Node::Array(first) => Step::Stop(Base::State(*first)),
         Node::Pick(c, a, b) => {
-            if room_arg(room, at, c).value() == 1 {
-                Step::Past(a)
+            if room_arg(room, at, *c).value() == 1 {
+                Step::Past(*a)
             } else {
-                Step::Past(b)
+                Step::Past(*b)
             }
         }
-        Node::Write(a, _, _) => Step::Put(a),
+        Node::Write(a, _, _) => Step::Put(*a),
         _ => Step::Stop(Base::Same(knox_words::word_at(room, at))),
     }
 }
@@ -91,9 +91,9 @@ fn put_write(nodes: &[Node], room: &[Word], at: usize, array: &mut [Word])
     if at < nodes.len()
         && let Node::Write(_, i, w) = node_at(nodes, at)
     {
-        let index = room_arg(room, at, i).value();
+        let index = room_arg(room, at, *i).value();
         if index < array.len() as u128 {
-            array[index as usize] = room_arg(room, at, w);
+            array[index as usize] = by_parts(room_arg(room, at, *w));
         }
     }
 }
@@ -116,7 +116,7 @@ fn put_state(state: &[Word], first: u32, array: &mut [Word])
     ensures { array.new ≡ first_words (words_from state.now first) (length array.old) }
 {
     for k in 0..array.len() {
-        array[k] = knox_words::word_far(state, first, k as u128);
+        array[k] = by_parts(knox_words::word_far(state, first, k as u128));
     }
 }
 

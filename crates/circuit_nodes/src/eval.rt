@@ -66,11 +66,19 @@ fn arg_before(
 }
 
 /// The node at a place.
-pub(crate) fn node_at(nodes: &[Node], at: usize) -> Node
+pub(crate) fn node_at(nodes: &[Node], at: usize) -> &Node
     requires { at < length nodes.now }
-    ensures { slice_get nodes.now at ≡ Some result }
+    ensures { slice_get nodes.now at ≡ Some result.now }
 {
-    nodes[at]
+    &nodes[at]
+}
+
+/// The same word, made of its parts: a copy of a whole word would copy what stands between them.
+pub(crate) fn by_parts(word: Word) -> Word
+    ensures { result ≡ word }
+{
+    let _width = word.width();
+    knox_words::uext(word, 0)
 }
 
 /// What a node leads to at an index: its word there, or a node before it with the same word there.
@@ -95,19 +103,19 @@ fn follow(
     ensures { Leads (given inputs.now state.now) nodes.now upto at index result }
 {
     match node_at(nodes, at) {
-        Node::Array(first) => Hop::Stop(knox_words::word_far(state, first, index)),
+        Node::Array(first) => Hop::Stop(knox_words::word_far(state, *first, index)),
         Node::Pick(c, a, b) => {
-            if arg_before(nodes, inputs, state, room, at, c).value() == 1 {
-                Hop::Go(a)
+            if arg_before(nodes, inputs, state, room, at, *c).value() == 1 {
+                Hop::Go(*a)
             } else {
-                Hop::Go(b)
+                Hop::Go(*b)
             }
         }
         Node::Write(a, i, w) => {
-            if arg_before(nodes, inputs, state, room, at, i).value() == index {
-                Hop::Stop(arg_before(nodes, inputs, state, room, at, w))
+            if arg_before(nodes, inputs, state, room, at, *i).value() == index {
+                Hop::Stop(arg_before(nodes, inputs, state, room, at, *w))
             } else {
-                Hop::Go(a)
+                Hop::Go(*a)
             }
         }
         _ => Hop::Stop(knox_words::word_at(room, at)),
@@ -181,42 +189,46 @@ fn node_word(nodes: &[Node], inputs: &[Word], state: &[Word], room: &[Word], at:
     ensures { result ≡ value_at (given inputs.now state.now) nodes.now (at + 1) at 0 }
 {
     match node_at(nodes, at) {
-        Node::Const(w) => w,
-        Node::Input(p) => knox_words::word_at(inputs, p as usize),
-        Node::State(p) => knox_words::word_at(state, p as usize),
-        Node::Array(p) => knox_words::word_at(state, p as usize),
-        Node::Un(o, a) => knox_words::op1(o, arg_before(nodes, inputs, state, room, at, a)),
+        Node::Const(w) => *w,
+        Node::Input(p) => knox_words::word_at(inputs, *p as usize),
+        Node::State(p) => knox_words::word_at(state, *p as usize),
+        Node::Array(p) => knox_words::word_at(state, *p as usize),
+        Node::Un(o, a) => knox_words::op1(*o, arg_before(nodes, inputs, state, room, at, *a)),
         Node::Bin(o, a, b) => knox_words::op2_or(
-            o,
-            arg_before(nodes, inputs, state, room, at, a),
-            arg_before(nodes, inputs, state, room, at, b),
+            *o,
+            arg_before(nodes, inputs, state, room, at, *a),
+            arg_before(nodes, inputs, state, room, at, *b),
         ),
         Node::Slice(a, high, low_bit) => {
-            slice_word(arg_before(nodes, inputs, state, room, at, a), high, low_bit)
+            slice_word(
+                arg_before(nodes, inputs, state, room, at, *a),
+                *high,
+                *low_bit,
+            )
         }
-        Node::Uext(a, n) => uext_word(arg_before(nodes, inputs, state, room, at, a), n),
-        Node::Sext(a, n) => sext_word(arg_before(nodes, inputs, state, room, at, a), n),
+        Node::Uext(a, n) => uext_word(arg_before(nodes, inputs, state, room, at, *a), *n),
+        Node::Sext(a, n) => sext_word(arg_before(nodes, inputs, state, room, at, *a), *n),
         Node::Ite(c, a, b) => knox_words::choose(
-            arg_before(nodes, inputs, state, room, at, c),
-            arg_before(nodes, inputs, state, room, at, a),
-            arg_before(nodes, inputs, state, room, at, b),
+            arg_before(nodes, inputs, state, room, at, *c),
+            arg_before(nodes, inputs, state, room, at, *a),
+            arg_before(nodes, inputs, state, room, at, *b),
         ),
         Node::Pick(c, a, b) => {
-            if arg_before(nodes, inputs, state, room, at, c).value() == 1 {
-                word_before(nodes, inputs, state, room, at, a)
+            if arg_before(nodes, inputs, state, room, at, *c).value() == 1 {
+                word_before(nodes, inputs, state, room, at, *a)
             } else {
-                word_before(nodes, inputs, state, room, at, b)
+                word_before(nodes, inputs, state, room, at, *b)
             }
         }
         Node::Read(a, i) => {
-            let index = arg_before(nodes, inputs, state, room, at, i).value();
-            indexed(nodes, inputs, state, room, at, a, index)
+            let index = arg_before(nodes, inputs, state, room, at, *i).value();
+            indexed(nodes, inputs, state, room, at, *a, index)
         }
         Node::Write(a, i, w) => {
-            if arg_before(nodes, inputs, state, room, at, i).value() == 0 {
-                arg_before(nodes, inputs, state, room, at, w)
+            if arg_before(nodes, inputs, state, room, at, *i).value() == 0 {
+                arg_before(nodes, inputs, state, room, at, *w)
             } else {
-                word_before(nodes, inputs, state, room, at, a)
+                word_before(nodes, inputs, state, room, at, *a)
             }
         }
     }
@@ -230,7 +242,7 @@ pub fn fill(nodes: &[Node], inputs: &[Word], state: &[Word], room: &mut [Word])
     ensures { IsFilled (given inputs.now state.now) nodes.now room.new (length nodes.now) }
 {
     for at in 0..nodes.len() {
-        room[at] = node_word(nodes, inputs, state, room, at);
+        room[at] = by_parts(node_word(nodes, inputs, state, room, at));
     }
 }
 
@@ -249,6 +261,7 @@ pub fn arg_words(
     ensures { out.new ≡ map (arg_word (value_at (given inputs.now state.now) nodes.now (length nodes.now))) args.now }
 {
     for k in 0..args.len() {
-        out[k] = arg_before(nodes, inputs, state, room, nodes.len(), args[k]);
+        let word = arg_before(nodes, inputs, state, room, nodes.len(), args[k]);
+        out[k] = by_parts(word);
     }
 }

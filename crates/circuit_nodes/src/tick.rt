@@ -5,7 +5,7 @@ ghost use Rattle.circuit_nodes.specs.Ticks.{size, words_in, ticked};
 ghost use Rattle.circuit_nodes.specs.Sources.{is_own, all_taken, put_cell, StagedCell, Staged};
 
 use crate::chain::{Base, put_base, put_writes, source};
-use crate::eval::room_arg;
+use crate::eval::{by_parts, room_arg};
 use crate::node::{Next, Node};
 use knox_words::Word;
 
@@ -149,7 +149,7 @@ fn put_next(
     ensures { own.new ≡ put_cell room.now nodes.now first next own.old staged.now }
 {
     match next {
-        Next::Word(arg) => own[0] = room_arg(room, nodes.len(), arg),
+        Next::Word(arg) => own[0] = by_parts(room_arg(room, nodes.len(), arg)),
         Next::Array { node, .. } => {
             let found = source(nodes, room, node, chain);
             if is_own(found.base, first) {
