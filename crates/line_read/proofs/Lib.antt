@@ -4,3 +4,4 @@ pub mod Gathered
 pub mod Symbols
 pub mod Saying
 pub mod Meant
+pub mod Known

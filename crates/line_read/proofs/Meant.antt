@@ -1,7 +1,8 @@
--- Each text line says one thing, and each word of the table of keywords is one.
-use Rattle.std.proofs.Common.{◌≡◌, ◌↔◌, ℕ, Bool, true, false, cond, List, [], ◌∷◌, ◌++◌, Option, Some, None, Result, Ok, Err, refl, sym, ◌∙◌, ap}
+-- Each text line says one thing.
+use Rattle.std.proofs.Common.{◌≡◌, ◌↔◌, ℕ, Bool, true, false, cond, List, [], ◌∷◌, ◌++◌, Option, Some, None, Result, Ok, Err, refl, sym, ◌∙◌, ap, subst, arith}
 use Rattle.std.specs.Prelude.{find, is_none}
-use Rattle.std.specs.List.{AllByRecursion}
+use Rattle.std.specs.List.{AllByRecursion, Contains}
+use Rattle.std.proofs.lemmas.List.Elements.{Contains-append_right}
 use Rattle.circuit_lines.specs.declared.fault.Why.{Why}
 use Rattle.circuit_lines.specs.declared.line.Line.{Line}
 use Rattle.line_read.specs.Words.{Tokens}
@@ -86,3 +87,9 @@ only-said at last (t ∷ ts) (Err w) h =
 
 pub one-thing : (at last : ℕ) (ts : Tokens) (r : Result (Option Line) Why) → (said at last ts ≡ r) ↔ Says at last ts r
 one-thing at last ts r = (says at last ts r, only-said at last ts r)
+
+-- the faults are those of tokens
+pub of-tokens : (at last : ℕ) (ts : Tokens) (w : Why) → said at last ts ≡ Err w → Contains rules w
+of-tokens at last ts w e =
+    let first = (says at last ts (Err w) e).1 in
+    subst (λ (ws : List Why). Contains ws w) (sym first.stands) (Contains-append_right first.before (w ∷ first.after) w (0, omega arith, refl))

@@ -1,5 +1,5 @@
 -- What tokens say, by what was read of them.
-use Rattle.std.proofs.Common.{◌≡◌, ℕ, ◌<◌, ◌≤◌, ◌==◌, nat_lt, nat_le, Bool, true, false, cond, List, [], ◌∷◌, length, Option, Some, None, Ok, Err, refl, sym, ◌∙◌, ap, lt-ltb, if◌then◌else◌}
+use Rattle.std.proofs.Common.{◌≡◌, ℕ, ◌<◌, ◌≤◌, ◌==◌, nat_lt, nat_le, Bool, true, false, cond, List, [], ◌∷◌, length, Option, Some, None, Result, Ok, Err, refl, sym, ◌∙◌, ap, lt-ltb, if◌then◌else◌}
 use Rattle.std.specs.Prelude.{is_none}
 use Rattle.std.proofs.lemmas.Bool.{lt-leb, le-ltb}
 use Rattle.circuit_lines.specs.declared.fault.Why.{Why}
@@ -145,6 +145,29 @@ line-whole at last all ts us vs n k s symbol early e above f behind shape some =
     ∙ ap (λ (o : Option Line). unless_broken (by_line o) o) line
 
 pub ruleset line_steps = (line-late, line-number, line-word, line-shape, line-symbol, line-whole)
+
+-- ---- faults before those of operands are told in any case
+
+same-told : (r : Result (Option Line) Why) (v w : Why) → r ≡ Err v → r ≡ Err w → v ≡ w
+same-told (Ok line) v w e f = cc
+same-told (Err x) v w e f = cc
+
+unfit-only : (line : Option Line) (w : Why) → unless_broken (by_line line) line ≡ Err w → w ≡ why.Operand
+unfit-only None w e = cc
+unfit-only (Some l) w e = cc
+
+pub told-late : (at last : ℕ) (all : Tokens) (w : Why) → 1000000 < at → line_or_fault at last all ≡ Err w → why.TooManyLines ≡ w
+told-late at last all w late e = same-told (line_or_fault at last all) why.TooManyLines w (line-late at last all late) e
+
+pub told-number : (at last : ℕ) (all : Tokens) (v w : Why) → at ≤ 1000000 → number_fault last (number_of all) ≡ Some v → line_or_fault at last all ≡ Err w → v ≡ w
+told-number at last all v w early f e = same-told (line_or_fault at last all) v w (line-number at last all v early f) e
+
+pub told-word : (at last : ℕ) (all ts : Tokens) (n : ℕ) (v w : Why) → at ≤ 1000000 → next_as line_number all ≡ Some (n, ts) → last < n → keyword_or_fault (next_word ts) ≡ Err v → line_or_fault at last all ≡ Err w → v ≡ w
+told-word at last all ts n v w early e above f g = same-told (line_or_fault at last all) v w (line-word at last all ts n v early e above f) g
+
+pub told-later : (at last : ℕ) (all ts : Tokens) (n : ℕ) (k : Keyword) (w : Why) → at ≤ 1000000 → next_as line_number all ≡ Some (n, ts) → last < n → keyword_or_fault (next_word ts) ≡ Ok k → line_or_fault at last all ≡ Err w → w ≡ why.Operand
+told-later at last all ts n k w early e above f g =
+    unfit-only (line_of at all) w (sym (ap (λ (o : Option Why). unless_broken o (line_of at all)) (worded-first at last all ts n k early e above f)) ∙ g)
 
 -- ---- a line without tokens
 

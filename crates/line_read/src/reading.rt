@@ -1,5 +1,5 @@
 //! Reading one text line: its number, its keyword, the operands, and the symbol.
-ghost use Rattle.std.specs.Prelude.{◌≡◌, ◌≢◌, ◌<◌, ◌↔◌, [], Some, None, Ok, Err, IfOk, IfErr, OnOk};
+ghost use Rattle.std.specs.Prelude.{◌≡◌, ◌≢◌, ◌<◌, ◌↔◌, [], Some, None, Ok, Err, Option, IfOk, IfErr, OnOk};
 ghost use Rattle.circuit_lines.specs.declared.fault.Why.TheVariants.{Operand, Memory};
 ghost use Rattle.line_read.specs.Words.{next_as, tokens_of};
 ghost use Rattle.line_read.specs.Numbers.{line_number};
@@ -87,6 +87,7 @@ fn symbol_at(alloc: Global, tokens: &mut Tokens) -> Result<Items<u8>, Why>
 fn line_at(alloc: Global, at: u32, last: u32, tokens: &mut Tokens) -> Result<Line, Why>
     ensures ok { IfOk result (λ line. line_or_fault at last tokens.old ≡ Ok (Some line)) }
     ensures err { IfErr result (λ why. why ≢ Memory → line_or_fault at last tokens.old ≡ Err why) }
+    ensures told { (why : Why) → line_or_fault at last tokens.old ≡ Err why → why ≢ Operand → IfErr result (λ fault. fault ≡ why) }
 {
     if at > LAST_LINE {
         return Err(Why::TooManyLines);
@@ -105,12 +106,15 @@ fn line_at(alloc: Global, at: u32, last: u32, tokens: &mut Tokens) -> Result<Lin
 
 /// The line of BTOR2 that stands on a text line, `None` where it has no tokens, or the first rule
 /// that its tokens break. `text` is without its line feed, `at` its number in the text, from 1, and
-/// `last` the number of the last line of BTOR2 before it, or 0.
+/// `last` the number of the last line of BTOR2 before it, or 0. Want of memory comes in place of a
+/// line or of the fault `Operand`, and of no other.
 #[tactic(auto, using(crate::proofs::Saying::said_steps))]
 pub fn read_line(alloc: Global, text: &[u8], at: u32, last: u32) -> Result<Option<Line>, Why>
     ensures ok { IfOk result (λ line. said at last (tokens_of text.now) ≡ Ok line) }
     ensures none { (result ≡ Ok None) ↔ (tokens_of text.now ≡ []) }
     ensures fault { IfErr result (λ why. why ≢ Memory → said at last (tokens_of text.now) ≡ Err why) }
+    ensures only { (line : Option Line) → said at last (tokens_of text.now) ≡ Ok line → IfErr result (λ why. why ≡ Memory) }
+    ensures told { (why : Why) → said at last (tokens_of text.now) ≡ Err why → why ≢ Operand → IfErr result (λ fault. fault ≡ why) }
 {
     let mut tokens = Tokens::new(text);
     if tokens.is_empty() {

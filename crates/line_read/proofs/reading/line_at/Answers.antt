@@ -1,7 +1,7 @@
 use Rattle.std.proofs.Common.{◌≡◌, ◌≢◌, Err, rules}
 use Rattle.circuit_lines.specs.declared.fault.Why.TheVariants.{Memory}
 use Rattle.line_read.specs.Faults.{line_or_fault}
-use Rattle.line_read.proofs.Saying.{line-word, line-shape, line-symbol, line-whole}
+use Rattle.line_read.proofs.Saying.{line-word, line-shape, line-symbol, line-whole, told-number, told-word, told-later}
 use Rattle.line_read.proofs.reading.line_at.Goals as goal
 
 pub returns-in_err-keyword-clause-err : goal.returns-in_err-keyword-clause-err
@@ -30,3 +30,24 @@ pub returns-clause-ok : goal.returns-clause-ok
 returns-clause-ok c =
     line-whole c.args.at c.args.last c.args.tokens.now c.number_at.new.tokens c.keyword_at.new.tokens c.form.new.tokens c.in_ok-number.number c.in_ok-keyword.keyword c.in_ok-shape.shape c.in_ok-symbol.symbol
     c.if-at-gt-LAST_LINE.false c.in_ok-number.ensures.ok c.in_ok-number.ensures.above c.in_ok-keyword.ensures.ok c.in_ok-keyword.ensures.rest c.in_ok-shape.ensures.ok c.in_ok-symbol.ensures.ok
+
+pub returns-in_err-number-clause-told : goal.returns-in_err-number-clause-told
+returns-in_err-number-clause-told c = λ why e other.
+    let is = told-number c.args.at c.args.last c.args.tokens.now c.in_err-number.field-0.0 why c.if-at-gt-LAST_LINE.false c.in_err-number.ensures.err e in
+    search (rules, is)
+
+pub returns-in_err-keyword-clause-told : goal.returns-in_err-keyword-clause-told
+returns-in_err-keyword-clause-told c = λ why e other.
+    let is = told-word c.args.at c.args.last c.args.tokens.now c.number_at.new.tokens c.in_ok-number.number c.in_err-keyword.field-0.0 why
+    c.if-at-gt-LAST_LINE.false c.in_ok-number.ensures.ok c.in_ok-number.ensures.above c.in_err-keyword.ensures.err e in
+    search (rules, is)
+
+pub returns-in_err-shape-clause-told : goal.returns-in_err-shape-clause-told
+returns-in_err-shape-clause-told c = λ why e other.
+    absurd (other (told-later c.args.at c.args.last c.args.tokens.now c.number_at.new.tokens c.in_ok-number.number c.in_ok-keyword.keyword why
+    c.if-at-gt-LAST_LINE.false c.in_ok-number.ensures.ok c.in_ok-number.ensures.above c.in_ok-keyword.ensures.ok e))
+
+pub returns-in_err-symbol-clause-told : goal.returns-in_err-symbol-clause-told
+returns-in_err-symbol-clause-told c = λ why e other.
+    absurd (other (told-later c.args.at c.args.last c.args.tokens.now c.number_at.new.tokens c.in_ok-number.number c.in_ok-keyword.keyword why
+    c.if-at-gt-LAST_LINE.false c.in_ok-number.ensures.ok c.in_ok-number.ensures.above c.in_ok-keyword.ensures.ok e))
