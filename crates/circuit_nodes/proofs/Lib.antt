@@ -2,3 +2,4 @@ pub mod Places
 pub mod Chains
 pub mod Taken
 pub mod Ticking
+pub mod Building
