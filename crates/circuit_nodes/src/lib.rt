@@ -14,3 +14,6 @@ pub use eval::{arg_words, fill};
 pub use node::{Arg, Next, Node};
 pub use power::{Fresh, Start, build_states};
 pub use tick::{advance, has_words};
+
+#[cfg(test)]
+mod tests;
