@@ -3,3 +3,4 @@ pub mod Chains
 pub mod Taken
 pub mod Ticking
 pub mod Building
+pub mod Reading
