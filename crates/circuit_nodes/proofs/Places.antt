@@ -104,4 +104,7 @@ filled-more g ns room i w h f e k lt = elim (cases_lt k i) [
       rw is (rw get_or-set_same e)
 ]
 
-pub ruleset filling = (filled-more)
+pub filled-none : (g : Given) (ns : List Node) (room : List Bits) → IsFilled g ns room 0
+filled-none g ns room k h = absurd (omega arith)
+
+pub ruleset filling = (filled-more, filled-none, fewer)

@@ -112,7 +112,7 @@ pub(crate) fn put_writes(nodes: &[Node], room: &[Word], chain: &[u32], array: &m
 
 /// The words of the state from a place on.
 #[tactic(auto, using(crate::proofs::Chains::base_steps))]
-fn put_state(state: &[Word], first: u32, array: &mut [Word])
+pub(crate) fn put_state(state: &[Word], first: u32, array: &mut [Word])
     ensures { array.new ≡ first_words (words_from state.now first) (length array.old) }
 {
     for k in 0..array.len() {

@@ -234,6 +234,26 @@ fn node_word(nodes: &[Node], inputs: &[Word], state: &[Word], room: &[Word], at:
     }
 }
 
+/// Fills the places from `from` on up to `upto`, where those before `from` are filled.
+#[tactic(auto, using(crate::proofs::Places::filling))]
+pub(crate) fn fill_more(
+    nodes: &[Node],
+    inputs: &[Word],
+    state: &[Word],
+    room: &mut [Word],
+    from: usize,
+    upto: usize,
+)
+    requires room { length room.old ≡ length nodes.now }
+    requires upto { upto ≤ length nodes.now }
+    requires filled { IsFilled (given inputs.now state.now) nodes.now room.old from }
+    ensures { IsFilled (given inputs.now state.now) nodes.now room.new upto }
+{
+    for at in from..upto {
+        room[at] = by_parts(node_word(nodes, inputs, state, room, at));
+    }
+}
+
 /// Fills a scratch area, one word for each node, from the first node to the last. An array node's
 /// word is that at index 0.
 #[tactic(auto, using(crate::proofs::Places::filling))]
@@ -241,9 +261,7 @@ pub fn fill(nodes: &[Node], inputs: &[Word], state: &[Word], room: &mut [Word])
     requires { length room.old ≡ length nodes.now }
     ensures { IsFilled (given inputs.now state.now) nodes.now room.new (length nodes.now) }
 {
-    for at in 0..nodes.len() {
-        room[at] = by_parts(node_word(nodes, inputs, state, room, at));
-    }
+    fill_more(nodes, inputs, state, room, 0, nodes.len());
 }
 
 /// The words of operands, over a filled scratch area.
