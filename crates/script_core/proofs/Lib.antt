@@ -11,3 +11,4 @@ pub mod Hosting
 pub mod Rooted
 pub mod Deciding
 pub mod Widest
+pub mod Telling

@@ -40,7 +40,11 @@ fn widths_into(args: &[(Items<u8>, u8)], out: &mut Vec<u8>) -> Result<(), AllocE
 }
 
 /// The widths of the arguments of an operation; none where there is no such operation.
-fn arg_widths_into(heads: &[OpHead], op: u32, out: &mut Vec<u8>) -> Result<(), AllocError>
+pub(crate) fn arg_widths_into(
+    heads: &[OpHead],
+    op: u32,
+    out: &mut Vec<u8>,
+) -> Result<(), AllocError>
     ensures { OnOk result (out.new.items ≡ head_args (slice_get heads.now op)) }
 {
     match heads.get(op as usize) {
@@ -84,7 +88,7 @@ impl Room {
 
     /// The root of `rest`, `wait` and `call`: takes fields, device words and words of the widths in
     /// `arg_widths`, and goes on where `idle` is 1 of the first two.
-    fn begin_idle<'a>(
+    pub(crate) fn begin_idle<'a>(
         &mut self,
         alloc: Global,
         dev: &Device,

@@ -3,6 +3,7 @@
 #![tactic(auto)]
 
 mod bits;
+mod branch;
 mod decide;
 mod evaluate;
 mod form;
@@ -16,6 +17,7 @@ mod spread;
 mod widths;
 
 pub use bits::choice_bits;
+pub use branch::branch_word;
 pub use decide::{Checked, Plain, check, plain_decide};
 pub use form::fits_script;
 pub use laws::scripts_are_formed;
