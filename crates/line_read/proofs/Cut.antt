@@ -3,7 +3,7 @@ use Rattle.std.proofs.Common.{◌≡◌, ℕ, true, false, List, [], ◌∷◌, 
 use Rattle.knox_text.specs.Lines.{begins_with}
 use Rattle.knox_text.specs.Tokens.{token, tokens, bare_tokens}
 use Rattle.knox_text.proofs.TokenLemmas.{bare-more, bare-none}
-use Rattle.line_read.specs.Words.{Tokens, uncommented, tokens_of}
+use Rattle.line_read.specs.Tokens.{Tokens, uncommented, tokens_of}
 
 uncommented-more : (all : Tokens) (t : List ℕ) (ts : Tokens) → all ≡ t ∷ ts → begins_with 59 t ≡ false → uncommented all ≡ t ∷ uncommented ts
 uncommented-more [] t ts e h = cc

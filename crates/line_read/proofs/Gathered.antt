@@ -1,7 +1,7 @@
 -- The nodes of a list, one after another.
 use Rattle.std.proofs.Common.{◌≡◌, ℕ, suc, ◌-◌, ◌<◌, ℤ, List, [], ◌∷◌, ◌++◌, Option, Some, None, refl, sym, ◌∙◌, ap, append_assoc, arith}
 use Rattle.std.proofs.lemmas.List.{append-nil}
-use Rattle.line_read.specs.Words.{◌>>=◌, Tokens}
+use Rattle.line_read.specs.Tokens.{◌>>=◌, Tokens}
 use Rattle.line_read.specs.Numbers.{node_at}
 use Rattle.line_read.specs.Grammar.{nodes_at}
 use Rattle.line_read.specs.Steps.{gathered}

@@ -1,13 +1,17 @@
 -- Each text line says one thing.
-use Rattle.std.proofs.Common.{◌≡◌, ◌↔◌, ℕ, Bool, true, false, cond, List, [], ◌∷◌, ◌++◌, Option, Some, None, Result, Ok, Err, refl, sym, ◌∙◌, ap, subst, arith}
+use Rattle.std.proofs.Common.{◌≡◌, ◌↔◌, ℕ, ◌<◌, ◌≤◌, nat_lt, nat_le, Bool, true, false, cond, List, [], ◌∷◌, ◌++◌, Option, Some, None, Result, Ok, Err, refl, sym, ◌∙◌, ap, subst, arith}
 use Rattle.std.specs.Prelude.{find, is_none}
 use Rattle.std.specs.List.{AllByRecursion, Contains}
 use Rattle.std.proofs.lemmas.List.Elements.{Contains-append_right}
+use Rattle.std.proofs.lemmas.Bool.{ltb-false, leb-false}
 use Rattle.circuit_lines.specs.declared.fault.Why.{Why}
 use Rattle.circuit_lines.specs.declared.line.Line.{Line}
-use Rattle.line_read.specs.Words.{Tokens}
-use Rattle.line_read.specs.Grammar.{line_of}
-use Rattle.line_read.specs.Faults.{breaks, rules, first_broken, unless_broken, said}
+use Rattle.line_read.specs.Tokens.{◌>>=◌, Tokens, leaving}
+use Rattle.line_read.specs.Numbers.{line_number}
+use Rattle.line_read.specs.Grammar.{shape_at, symbol_of, line_of}
+use Rattle.line_read.specs.Faults.{number_of, is_low, breaks, rules, first_broken, unless_broken, said}
+use Rattle.circuit_lines.specs.declared.line.Shape.{Shape}
+use Rattle.line_read.proofs.Saying.{with_symbol, with_shape}
 use Rattle.line_read.specs.Meaning.{FirstBroken, Says}
 
 -- ---- the first element that a test finds
@@ -93,3 +97,31 @@ pub of-tokens : (at last : ℕ) (ts : Tokens) (w : Why) → said at last ts ≡ 
 of-tokens at last ts w e =
     let first = (says at last ts (Err w) e).1 in
     subst (λ (ws : List Why). Contains ws w) (sym first.stands) (Contains-append_right first.before (w ∷ first.after) w (0, omega arith, refl))
+
+-- ---- where a line stands
+
+-- the line of tokens stands on its text line, and has the number of its first token
+placed : (at : ℕ) (ts : Tokens) (l : Line) → line_of at ts ≡ Some l → (l.at ≡ at) × (number_of ts ≡ Some l.number)
+placed at [] l e = cc
+placed at (t ∷ ts) l e = by_number (line_number t) e where
+  by_symbol : (n : ℕ) (s : Shape) (o : Option (List ℕ)) → with_symbol at n s o ≡ Some l → (l.at ≡ at) × (Some n ≡ Some l.number)
+  by_symbol n s None e = cc
+  by_symbol n s (Some symbol) e =
+      let is : record { number = n; at = at; shape = s; symbol = symbol } ≡ l = cc in
+      (ap (λ (x : Line). x.at) (sym is), ap (λ (x : Line). Some x.number) is)
+
+  by_shape : (n : ℕ) (o : Option (Shape × Tokens)) → with_shape at n o ≡ Some l → (l.at ≡ at) × (Some n ≡ Some l.number)
+  by_shape n None e = cc
+  by_shape n (Some s) e = by_symbol n s.0 (symbol_of s.1) e
+
+  by_number : (o : Option ℕ) → (leaving ts o >>= λ n. with_shape at n.0 (shape_at n.1)) ≡ Some l → (l.at ≡ at) × (o ≡ Some l.number)
+  by_number None e = cc
+  by_number (Some n) e = by_shape n (shape_at ts) e
+
+pub stands : (at last : ℕ) (ts : Tokens) (l : Line) → said at last ts ≡ Ok (Some l) → (l.at ≡ at) × (at ≤ 1000000) × (last < l.number)
+stands at last ts l e =
+    let both = says at last ts (Ok (Some l)) e in
+    let place = placed at ts l both.0 in
+    let early : nat_lt 1000000 at ≡ false = both.1.0 in
+    let above : nat_le l.number last ≡ false = ap (is_low last) (sym place.1) ∙ both.1.1.1.0 in
+    (place.0, ltb-false 1000000 at early, leb-false l.number last above)

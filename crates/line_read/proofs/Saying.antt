@@ -7,7 +7,7 @@ use Rattle.circuit_lines.specs.declared.fault.Why.TheVariants as why
 use Rattle.circuit_lines.specs.declared.line.Line.{Line}
 use Rattle.circuit_lines.specs.declared.line.Shape.{Shape}
 use Rattle.line_read.specs.declared.keyword.Keyword.{Keyword}
-use Rattle.line_read.specs.Words.{◌>>=◌, Tokens, leaving, next_as}
+use Rattle.line_read.specs.Tokens.{◌>>=◌, Tokens, leaving, next_as}
 use Rattle.line_read.specs.Numbers.{line_number}
 use Rattle.line_read.specs.Keywords.{keyword, is_overflow, is_constraint}
 use Rattle.line_read.specs.Grammar.{form, shape_at, symbol_of, line_of}

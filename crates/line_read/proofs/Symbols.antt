@@ -1,6 +1,6 @@
 -- The symbol at the end of a line.
 use Rattle.std.proofs.Common.{◌≡◌, ℕ, ◌==◌, Bool, true, false, List, [], ◌∷◌, length, Some, None, refl, sym, ◌∙◌, ap, arith, eqb-true}
-use Rattle.line_read.specs.Words.{Tokens}
+use Rattle.line_read.specs.Tokens.{Tokens}
 use Rattle.line_read.specs.Grammar.{symbol_of}
 
 pub not-none : (t : List ℕ) (ts : Tokens) → (length (t ∷ ts) == 0) ≡ true → ⊥

@@ -3,7 +3,7 @@ use Rattle.std.specs.Prelude.{ℕ, List, Option, Some, None, Result, Ok, Err}
 use Rattle.circuit_lines.specs.declared.fault.Why.{Why}
 use Rattle.circuit_lines.specs.declared.line.Shape.{Shape}
 use Rattle.circuit_lines.specs.declared.line.Line.{Line}
-use Rattle.line_read.specs.Words.{tokens_of}
+use Rattle.line_read.specs.Tokens.{tokens_of}
 use Rattle.line_read.specs.Faults.{said}
 
 abbrev pub shape_in : Option Line → Option Shape

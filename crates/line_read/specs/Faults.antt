@@ -5,7 +5,7 @@ use Rattle.std.specs.Prelude.{ℕ, nat_lt, nat_le, Bool, false, List, [], ◌∷
 use Rattle.circuit_lines.specs.declared.fault.Why.{Why}
 use Rattle.circuit_lines.specs.declared.fault.Why.TheVariants as why
 use Rattle.circuit_lines.specs.declared.line.Line.{Line}
-use Rattle.line_read.specs.Words.{Tokens}
+use Rattle.line_read.specs.Tokens.{Tokens}
 use Rattle.line_read.specs.Numbers.{line_number}
 use Rattle.line_read.specs.Keywords.{keyword, is_overflow, is_constraint}
 use Rattle.line_read.specs.Grammar.{line_of}

@@ -8,7 +8,7 @@ use Rattle.circuit_lines.specs.declared.line.Shape.TheVariants as shape
 use Rattle.circuit_lines.specs.declared.line.Line.{Line}
 use Rattle.line_read.specs.declared.keyword.Keyword.{Keyword}
 use Rattle.line_read.specs.declared.keyword.Keyword.TheVariants as key
-use Rattle.line_read.specs.Words.{◌>>=◌, Tokens, next_as}
+use Rattle.line_read.specs.Tokens.{◌>>=◌, Tokens, next_as}
 use Rattle.line_read.specs.Numbers.{line_number, sort_at, size_at, count_at, node_at}
 use Rattle.line_read.specs.Keywords.{keyword}
 

@@ -1,4 +1,4 @@
-pub mod Words
+pub mod Tokens
 pub mod Numbers
 pub mod Keywords
 pub mod Grammar

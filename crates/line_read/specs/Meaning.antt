@@ -4,7 +4,7 @@ use Rattle.std.specs.Prelude.{◌≡◌, ◌≢◌, ℕ, Bool, true, false, List
 use Rattle.std.specs.List.{AllByRecursion}
 use Rattle.circuit_lines.specs.declared.fault.Why.{Why}
 use Rattle.circuit_lines.specs.declared.line.Line.{Line}
-use Rattle.line_read.specs.Words.{Tokens}
+use Rattle.line_read.specs.Tokens.{Tokens}
 use Rattle.line_read.specs.Grammar.{line_of}
 use Rattle.line_read.specs.Faults.{breaks, rules}
 

@@ -3,7 +3,7 @@
 -- way, 0 where a sort is named and the greatest of its place elsewhere.
 use Rattle.std.specs.Prelude.{ℕ, ◌-◌, ◌^◌, ◌==◌, min, nat_le, ℤ, pos, neg_ℤ, Bool, true, false, if◌then◌else◌, List, [], ◌∷◌, Option, Some, None}
 use Rattle.knox_text.specs.Numbers.{natural, at_most}
-use Rattle.line_read.specs.Words.{◌>>=◌, Tokens, next_as}
+use Rattle.line_read.specs.Tokens.{◌>>=◌, Tokens, next_as}
 
 -- a number from 1 on
 abbrev pub from_one : ℕ → Option ℕ

@@ -3,7 +3,7 @@ use Rattle.std.specs.Prelude.{ℕ, ℤ, if◌then◌else◌, List, [], ◌∷◌
 use Rattle.circuit_lines.specs.declared.fault.Why.{Why}
 use Rattle.circuit_lines.specs.declared.fault.Why.TheVariants as why
 use Rattle.line_read.specs.declared.keyword.Keyword.{Keyword}
-use Rattle.line_read.specs.Words.{◌>>=◌, Tokens}
+use Rattle.line_read.specs.Tokens.{◌>>=◌, Tokens}
 use Rattle.line_read.specs.Keywords.{keyword, is_overflow, is_constraint}
 use Rattle.line_read.specs.Faults.{is_low}
 

@@ -4,7 +4,7 @@ ghost use Rattle.circuit_lines.specs.declared.fault.Why.TheVariants.{TooManyLine
 ghost use Rattle.circuit_lines.specs.declared.line.Shape.TheVariants.{Bitvec, Array, Const, Constd, Consth, Zero, One, Ones, Input, State, Init, Next, Un, Bin, Slice, Uext, Sext, Ite, Read, Write, Output, Bad, Fair, Justice};
 ghost use Rattle.knox_words.specs.declared.op.Op1.TheVariants.{Redand};
 ghost use Rattle.knox_words.specs.declared.op.Op2.TheVariants.{Concat};
-ghost use Rattle.line_read.specs.Words.{tokens_of};
+ghost use Rattle.line_read.specs.Tokens.{tokens_of};
 ghost use Rattle.line_read.specs.Faults.{said};
 ghost use Rattle.line_read.specs.Examples.{meaning, shape_of};
 

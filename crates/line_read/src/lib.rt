@@ -14,5 +14,5 @@ mod tests;
 mod tokens;
 
 pub use examples::{faults_as_expected, forms_as_expected, lines_as_expected};
-pub use laws::{keywords_are_told_apart, lines_say_one_thing};
+pub use laws::{keywords_are_told_apart, lines_are_placed, lines_say_one_thing};
 pub use reading::read_line;

@@ -1,7 +1,7 @@
 //! Reading one text line: its number, its keyword, the operands, and the symbol.
 ghost use Rattle.std.specs.Prelude.{◌≡◌, ◌≢◌, ◌<◌, ◌↔◌, [], Some, None, Ok, Err, Option, IfOk, IfErr, OnOk};
 ghost use Rattle.circuit_lines.specs.declared.fault.Why.TheVariants.{Operand, Memory};
-ghost use Rattle.line_read.specs.Words.{next_as, tokens_of};
+ghost use Rattle.line_read.specs.Tokens.{next_as, tokens_of};
 ghost use Rattle.line_read.specs.Numbers.{line_number};
 ghost use Rattle.line_read.specs.Grammar.{symbol_of};
 ghost use Rattle.line_read.specs.Faults.{number_of, line_or_fault, said};

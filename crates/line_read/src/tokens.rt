@@ -1,6 +1,6 @@
 //! The tokens of a line up to a comment, which goes to the end of the line.
 ghost use Rattle.std.specs.Prelude.{◌≡◌, ◌==◌, ◌∷◌, [], length, IfSome, IfNone};
-ghost use Rattle.line_read.specs.Words.{tokens_of};
+ghost use Rattle.line_read.specs.Tokens.{tokens_of};
 
 use knox_text::begins_with;
 use std::marker::Model;
@@ -12,7 +12,7 @@ pub struct Tokens<'a> {
 }
 
 impl<'a> Model for Tokens<'a> {
-    ghost use Rattle.line_read.specs.Words.{Tokens, tokens_of};
+    ghost use Rattle.line_read.specs.Tokens.{Tokens, tokens_of};
 
     ghost Value = { Tokens };
 
