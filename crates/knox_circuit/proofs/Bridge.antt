@@ -1,5 +1,5 @@
 -- The value of a node by number is that of its line's node by place.
-use Rattle.std.proofs.Common.{◌≡◌, ℕ, zero, suc, ◌+◌, ◌<◌, ◌≤◌, ◌==◌, ℤ, pos, negsuc, List, [], ◌∷◌, ◌++◌, Option, Some, None, Bool, true, false, IsTrue, length, length-append, slice_get, map, is_none, subst, refl, sym, ◌∙◌, ap, arith, add-zero, inl, inr, ◌⊎◌, if◌then◌else◌}
+use Rattle.std.proofs.Common.{◌≡◌, ℕ, zero, suc, ◌+◌, ◌<◌, ◌≤◌, ◌==◌, ℤ, pos, negsuc, List, [], ◌∷◌, ◌++◌, Option, Some, None, Bool, true, IsTrue, length, length-append, slice_get, map, is_none, subst, refl, sym, ◌∙◌, ap, arith, add-zero, inl, inr, ◌⊎◌, if◌then◌else◌}
 use Rattle.std.specs.List.{list_all}
 use Rattle.std.proofs.lemmas.Bool.Decides.{eqb_tells}
 use Rattle.knox_words.specs.Bits.{Bits, word_at, ite_value}
@@ -69,6 +69,7 @@ held-node cells g by n k = by_cell (cell_of cells n) where
   by_index : (index : Option ℕ) (first : ℕ) → state_value index (λ i. word_at g.state (first + i)) k ≡ places.level g by (held_node index first) k
   by_index None first = ap (word_at g.state) (add-zero first)
   by_index (Some i) first = refl
+
   by_cell : (c : Option Cell) → held_from g.state c k ≡ places.level g by (state_node c) k
   by_cell None = refl
   by_cell (Some c) = by_index c.index c.first

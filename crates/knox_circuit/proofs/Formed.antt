@@ -1,5 +1,5 @@
 -- Lines of the form, and the tables of more and more lines.
-use Rattle.std.proofs.Common.{◌≡◌, ℕ, zero, suc, ◌+◌, ◌<◌, ◌≤◌, nat_le, nat_lt, ◌^◌, min, ℤ, pos, negsuc, List, [], ◌∷◌, ◌++◌, Option, Some, None, Bool, true, false, IsTrue, is_none, length, length-append, take, reverse, slice_get, refl, sym, ◌∙◌, ap, subst, arith, lit<, inl, inr, if◌then◌else◌}
+use Rattle.std.proofs.Common.{◌≡◌, ℕ, zero, suc, ◌+◌, ◌<◌, ◌≤◌, nat_le, nat_lt, ◌^◌, min, ℤ, pos, negsuc, List, [], ◌∷◌, ◌++◌, Option, Some, None, true, false, IsTrue, is_none, length, length-append, take, reverse, slice_get, refl, sym, ◌∙◌, ap, subst, arith, lit<, inl, inr}
 use Rattle.std.proofs.lemmas.Bool.{cases_lt}
 use Rattle.std.proofs.lemmas.Bool.Decides.{eqb_tells}
 use Rattle.std.proofs.lemmas.List.{map-append, reverse-append, length-reverse}
@@ -17,7 +17,7 @@ use Rattle.circuit_lines.specs.declared.line.Line.{Line}
 use Rattle.circuit_lines.specs.declared.line.Shape.{Shape}
 use Rattle.circuit_lines.specs.declared.line.Shape.TheVariants as shape
 use Rattle.knox_circuit.specs.declared.circuit.Cell.{Cell}
-use Rattle.circuit_lines.specs.Sorts.{earlier, decimal, shape_of, words_width, sort_width, sort_index, indices_width, input_sort, state_sort, output_operand}
+use Rattle.circuit_lines.specs.Sorts.{earlier, decimal, shape_of, sort_width, sort_index, input_sort, state_sort, output_operand}
 use Rattle.knox_circuit.specs.declared.naming.Kind.TheVariants as kind
 use Rattle.knox_circuit.specs.Ports.{name_among, input_port, inputs_of, output_port, outputs_of, output_operands, one_or_none}
 use Rattle.circuit_lines.specs.Nodes.{number_of, node_width, next_of, size}

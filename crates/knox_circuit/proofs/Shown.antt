@@ -1,5 +1,5 @@
 -- Output words have the widths of their lines' nodes.
-use Rattle.std.proofs.Common.{◌≡◌, ℕ, ℤ, pos, negsuc, List, [], ◌∷◌, ◌++◌, Option, Some, None, Bool, true, IsTrue, map, reverse, refl, sym, ◌∙◌, ap, subst}
+use Rattle.std.proofs.Common.{◌≡◌, ℕ, ℤ, pos, negsuc, List, [], ◌∷◌, Option, Some, None, true, IsTrue, map, reverse, refl, sym, ap, subst}
 use Rattle.std.proofs.lemmas.List.{map-append}
 use Rattle.knox_words.specs.Bits.{Bits}
 use Rattle.knox_words.specs.Lists.{fit, fits}

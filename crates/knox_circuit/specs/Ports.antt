@@ -1,6 +1,6 @@
 -- The inputs and outputs of a circuit, and the names of lines.
 -- The project's own: a symbol that begins with `@` names nothing, and the first line of a kind with a symbol has it as its name.
-use Rattle.std.specs.Prelude.{ℕ, ◌+◌, ◌==◌, ◌&&◌, ◌||◌, ℤ, pos, negsuc, List, [], ◌∷◌, ◌++◌, Option, Some, None, is_some, Bool, false, if◌then◌else◌}
+use Rattle.std.specs.Prelude.{ℕ, ◌==◌, ◌&&◌, ◌||◌, ℤ, List, [], ◌∷◌, ◌++◌, Option, Some, None, is_some, Bool, false, if◌then◌else◌}
 use Rattle.std.specs.Str.{bytes_eq}
 use Rattle.circuit_lines.specs.declared.line.Shape.{Shape}
 use Rattle.circuit_lines.specs.declared.line.Line.{Line}
@@ -8,7 +8,7 @@ use Rattle.knox_circuit.specs.declared.circuit.Port.{Port}
 use Rattle.knox_circuit.specs.declared.naming.Kind.{Kind}
 use Rattle.knox_circuit.specs.declared.naming.Kind.TheVariants as kind
 use Rattle.circuit_lines.specs.Nodes.{number_of, node_width}
-use Rattle.circuit_lines.specs.Sorts.{shape_of, sort_named, sort_width, input_sort, output_operand, state_sort}
+use Rattle.circuit_lines.specs.Sorts.{sort_width, input_sort, output_operand, state_sort}
 
 -- the name that a symbol gives, or nothing where it begins with `@`
 abbrev pub name_of : List ℕ → List ℕ

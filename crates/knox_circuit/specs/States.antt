@@ -1,9 +1,9 @@
 -- The states of a circuit. A cell is a state with a `next` line; a bare state has neither `next` nor `init`.
-use Rattle.std.specs.Prelude.{ℕ, ◌^◌, ◌==◌, ℤ, pos, negsuc, List, [], ◌∷◌, ◌++◌, Bool, false, Option, Some, None, is_some, sum_by, if◌then◌else◌}
+use Rattle.std.specs.Prelude.{ℕ, ◌==◌, ℤ, List, [], ◌∷◌, ◌++◌, Bool, Option, Some, None, is_some, sum_by, if◌then◌else◌}
 use Rattle.circuit_lines.specs.declared.line.Line.{Line}
 use Rattle.knox_circuit.specs.declared.circuit.Cell.{Cell}
 use Rattle.circuit_lines.specs.Nodes.{next_of, init_of, size}
-use Rattle.circuit_lines.specs.Sorts.{sort_width, sort_index, state_sort, next_pair, init_pair}
+use Rattle.circuit_lines.specs.Sorts.{sort_width, sort_index, state_sort}
 use Rattle.knox_circuit.specs.declared.naming.Kind.TheVariants as kind
 use Rattle.knox_circuit.specs.Ports.{name_among}
 
