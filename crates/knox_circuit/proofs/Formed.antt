@@ -1,5 +1,5 @@
 -- Lines of the form, and the tables of more and more lines.
-use Rattle.std.proofs.Common.{◌≡◌, ◌&&◌, ℕ, zero, suc, ◌+◌, ◌<◌, ◌≤◌, nat_le, nat_lt, ◌^◌, min, ℤ, pos, negsuc, List, [], ◌∷◌, ◌++◌, Option, Some, None, true, false, IsTrue, is_none, length, length-append, take, reverse, slice_get, refl, sym, ◌∙◌, ap, subst, arith, lit<, inl, inr}
+use Rattle.std.proofs.Common.{◌≡◌, Bool, ◌&&◌, ℕ, zero, suc, ◌+◌, ◌<◌, ◌≤◌, nat_le, nat_lt, ◌^◌, min, ℤ, pos, negsuc, List, [], ◌∷◌, ◌++◌, Option, Some, None, true, false, IsTrue, is_none, length, length-append, take, reverse, slice_get, refl, sym, ◌∙◌, ap, subst, arith, lit<, inl, inr}
 use Rattle.std.proofs.lemmas.Bool.{cases_lt}
 use Rattle.std.proofs.lemmas.Bool.Decides.{eqb_tells}
 use Rattle.std.proofs.lemmas.List.{map-append, reverse-append, length-reverse}

@@ -19,7 +19,7 @@ not-below n m h = by_test (nat_lt n m) refl where
 pub limited-great : (n : ℕ) → 2 ^ 128 ≤ n → limited n ≡ None
 limited-great n h = rw (not-below n (2 ^ 128) h) refl
 
-more-still : (v d : ℕ) → 2 ^ 128 ≤ v → limited (v + d) ≡ None
+pub more-still : (v d : ℕ) → 2 ^ 128 ≤ v → limited (v + d) ≡ None
 more-still v d h = let still : 2 ^ 128 ≤ v + d = omega (arith, h) in limited-great (v + d) still
 
 pub ruleset number_steps = (limited-small, limited-great, more-still)
@@ -36,7 +36,7 @@ limited-step v base d one = elim (cases_lt v (2 ^ 128)) [
 
 pub ruleset limit_steps = (limited-step)
 
-limited-some : (v n : ℕ) → Some n ≡ limited v → n ≡ v
+pub limited-some : (v n : ℕ) → Some n ≡ limited v → n ≡ v
 limited-some v n e = by_test (nat_lt v (2 ^ 128)) e where
   by_test : (b : Bool) → Some n ≡ (if b then Some v else None) → n ≡ v
   by_test true e = cc
