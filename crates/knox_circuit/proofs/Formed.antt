@@ -1,23 +1,18 @@
 -- Lines of the form, and the tables of more and more lines.
-use Rattle.std.proofs.Common.{◌≡◌, Bool, ◌&&◌, ℕ, zero, suc, ◌+◌, ◌<◌, ◌≤◌, nat_le, nat_lt, ◌^◌, min, ℤ, pos, negsuc, List, [], ◌∷◌, ◌++◌, Option, Some, None, true, false, IsTrue, is_none, length, length-append, take, reverse, slice_get, refl, sym, ◌∙◌, ap, subst, arith, lit<, inl, inr}
+use Rattle.std.proofs.Common.{◌≡◌, Bool, ◌&&◌, ℕ, zero, suc, ◌+◌, ◌<◌, ◌≤◌, nat_le, ℤ, List, [], ◌∷◌, ◌++◌, Option, Some, None, true, false, IsTrue, is_none, length, length-append, take, reverse, slice_get, refl, sym, ◌∙◌, ap, subst, arith, inl, inr}
 use Rattle.std.proofs.lemmas.Bool.{cases_lt}
-use Rattle.std.proofs.lemmas.Bool.Decides.{eqb_tells}
 use Rattle.std.proofs.lemmas.List.{map-append, reverse-append, length-reverse}
 use Rattle.std.proofs.lemmas.Option.{slice_get_within}
 use Rattle.std.proofs.lemmas.List.Sums.{sum_by-append}
 use Rattle.std.proofs.lemmas.List.Folds.{list_all-append}
 use Rattle.std.specs.List.{list_all}
 use Rattle.std.proofs.lemmas.Grind.{common_steps}
-use Rattle.std.specs.Char.{digit_value}
-use Rattle.std.specs.Str.Parse.{digits_value}
-use Rattle.knox_words.specs.Bits.{word_or}
-use Rattle.std.proofs.Math.Nat.{pow-le-pow_right}
-use borrow.Author.Tests.{ltb-true, leb-true}
+use borrow.Author.Tests.{leb-true}
 use Rattle.circuit_lines.specs.declared.line.Line.{Line}
 use Rattle.circuit_lines.specs.declared.line.Shape.{Shape}
 use Rattle.circuit_lines.specs.declared.line.Shape.TheVariants as shape
 use Rattle.knox_circuit.specs.declared.circuit.Cell.{Cell}
-use Rattle.circuit_lines.specs.Sorts.{earlier, decimal, shape_of, sort_width, sort_index, input_sort, state_sort, output_operand}
+use Rattle.circuit_lines.specs.Sorts.{earlier, sort_width, sort_index, input_sort, state_sort, output_operand}
 use Rattle.knox_circuit.specs.declared.naming.Kind.TheVariants as kind
 use Rattle.knox_circuit.specs.Ports.{name_among, input_port, inputs_of, output_port, outputs_of, output_operands, one_or_none}
 use Rattle.circuit_lines.specs.Nodes.{number_of, node_width, next_of, size}
@@ -25,7 +20,7 @@ use Rattle.knox_circuit.specs.States.{words_in, if_some, state_cell, cell_among,
 use Rattle.knox_circuit.specs.Form.{is_plain, is_line, IsInForm}
 use Rattle.knox_circuit.specs.Resolved.{arg_of, output_args}
 use Rattle.knox_circuit.proofs.Earlier.{earlier-next, earlier-more}
-use Rattle.knox_circuit.proofs.Tests.{and-left, and-right}
+use Rattle.knox_circuit.proofs.Tests.{and-right}
 use Rattle.knox_circuit.proofs.Words.{index-none}
 use Rattle.knox_circuit.proofs.Ruled.{is_width, Obeys, line-obeys, line-few, form-words}
 use Rattle.knox_circuit.proofs.Sized.{line-sort, input-sort, state-sort, shown-node}

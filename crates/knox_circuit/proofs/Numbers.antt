@@ -1,9 +1,9 @@
 -- Numbers below 2 ^ 128, and words of numbers that are too great.
-use Rattle.std.proofs.Common.{◌≡◌, ℕ, ◌+◌, ◌*◌, ◌^◌, ◌<◌, ◌≤◌, ◌&&◌, nat_le, nat_lt, Option, Some, None, Bool, true, false, refl, sym, ◌∙◌, ap, subst, arith, lt-ltb, lit<, inl, inr, if◌then◌else◌}
+use Rattle.std.proofs.Common.{◌≡◌, ℕ, ◌+◌, ◌*◌, ◌^◌, ◌<◌, ◌≤◌, ◌&&◌, nat_le, nat_lt, Option, Some, None, Bool, true, false, refl, sym, ◌∙◌, ap, arith, lt-ltb, lit<, inl, inr, if◌then◌else◌}
 use Rattle.std.proofs.lemmas.Bool.{cases_lt}
 use Rattle.std.proofs.Math.Nat.{pow-le-pow_right, mul-le-mul_left}
 use borrow.Author.Tests.{leb-true, ltb-true}
-use Rattle.knox_words.specs.Bits.{Bits, bits, is_word, word_or}
+use Rattle.knox_words.specs.Bits.{bits, is_word, word_or}
 use Rattle.knox_circuit.specs.Limited.{limited, limited_more}
 use Rattle.knox_circuit.proofs.Tests.{and-left, and-right}
 

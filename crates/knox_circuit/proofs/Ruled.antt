@@ -1,5 +1,5 @@
 -- Lines that break no rule: what the rules say of sorts and widths.
-use Rattle.std.proofs.Common.{◌≡◌, ℕ, ◌+◌, ◌-◌, ◌<◌, ◌≤◌, ◌==◌, ◌&&◌, ◌||◌, nat_lt, nat_le, ℤ, List, [], ◌∷◌, Option, Some, None, Bool, true, false, not, IsTrue, is_none, length, refl, sym, ◌∙◌, ap, subst, arith, eqb-true, inl, inr, if◌then◌else◌}
+use Rattle.std.proofs.Common.{◌≡◌, ℕ, ◌+◌, ◌-◌, ◌<◌, ◌==◌, ◌&&◌, ◌||◌, nat_lt, nat_le, List, [], ◌∷◌, Option, Some, None, Bool, true, false, not, IsTrue, is_none, length, refl, sym, ◌∙◌, ap, subst, eqb-true, inl, inr, if◌then◌else◌}
 use Rattle.std.proofs.lemmas.Bool.{cases_lt, le-leb}
 use Rattle.std.proofs.lemmas.Bool.Decides.{eqb_tells}
 use Rattle.knox_words.specs.declared.op.Op1.{Op1}
@@ -13,7 +13,7 @@ use Rattle.circuit_lines.specs.declared.line.Shape.TheVariants as shape
 use Rattle.circuit_lines.specs.Sorts.{shape_of, words_width, sort_width, sort_named}
 use Rattle.circuit_rules.specs.declared.sort.SortOf.{SortOf}
 use Rattle.circuit_rules.specs.declared.sort.SortOf.TheVariants.{Words, Arrays}
-use Rattle.circuit_rules.specs.Named.{sort_of, sort_line, same_sort, are_one, is_words}
+use Rattle.circuit_rules.specs.Named.{sort_of, sort_line, are_one, is_words}
 use Rattle.circuit_rules.specs.Operators.{un_sort, bin_sort, slice_sort, extended, ite_sort}
 use Rattle.circuit_rules.specs.Rules.{last_number, is_too_far, is_out_of_order, is_width_up_to, breaks_operand, breaks_sort, breaks_digits, breaks_width, where_so, shape_broken, broken}
 use Rattle.knox_circuit.specs.Form.{is_plain, is_line, IsInForm}

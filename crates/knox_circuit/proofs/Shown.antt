@@ -1,17 +1,15 @@
 -- Output words have the widths of their lines' nodes.
-use Rattle.std.proofs.Common.{◌≡◌, ℕ, ℤ, pos, negsuc, List, [], ◌∷◌, Option, Some, None, true, IsTrue, map, reverse, refl, sym, ap, subst}
+use Rattle.std.proofs.Common.{◌≡◌, ℕ, ℤ, List, [], ◌∷◌, Option, Some, None, true, IsTrue, map, reverse, refl, sym, subst}
 use Rattle.std.proofs.lemmas.List.{map-append}
 use Rattle.knox_words.specs.Bits.{Bits}
 use Rattle.knox_words.specs.Lists.{fit, fits}
 use Rattle.knox_words.proofs.Lists.{fit-both}
 use Rattle.circuit_lines.specs.declared.line.Line.{Line}
-use Rattle.circuit_lines.specs.declared.line.Shape.{Shape}
-use Rattle.circuit_lines.specs.declared.line.Shape.TheVariants as shape
 use Rattle.knox_circuit.specs.declared.circuit.Port.{Port}
 use Rattle.knox_circuit.specs.declared.table.Tables.{Tables}
 use Rattle.circuit_lines.specs.Sorts.{output_operand}
 use Rattle.knox_circuit.specs.Ports.{output_port, outputs_of, one_or_none, output_operands}
-use Rattle.circuit_lines.specs.Nodes.{node_width, number_of}
+use Rattle.circuit_lines.specs.Nodes.{node_width}
 use Rattle.circuit_nodes.specs.Values.{Value}
 use Rattle.knox_circuit.specs.Meaning.{word}
 use Rattle.knox_circuit.specs.Form.{IsInForm}

@@ -11,8 +11,6 @@ use Rattle.knox_words.specs.declared.op.Op1.TheVariants.{Not}
 use Rattle.knox_words.proofs.Lists.{length-fit}
 use Rattle.knox_words.proofs.Results.{op1_value-fits}
 use Rattle.circuit_lines.specs.declared.line.Line.{Line}
-use Rattle.circuit_lines.specs.declared.line.Shape.{Shape}
-use Rattle.circuit_lines.specs.declared.line.Shape.TheVariants as shape
 use Rattle.knox_circuit.specs.declared.circuit.Cell.{Cell}
 use Rattle.knox_circuit.specs.declared.circuit.Port.{Port}
 use Rattle.knox_circuit.specs.declared.table.Tables.{Tables}
