@@ -1,1 +1,5 @@
 pub mod Places
+pub mod Chains
+pub mod Taken
+pub mod Ticking
+pub mod Building

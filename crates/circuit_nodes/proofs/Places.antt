@@ -1,13 +1,13 @@
 -- The values of nodes by place, over more and more of the nodes.
-use Rattle.std.proofs.Common.{◌≡◌, ◌≢◌, set, get_or-set_other, get_or-set_same, ℕ, zero, suc, ◌+◌, ◌<◌, ◌≤◌, ◌==◌, List, [], ◌∷◌, ◌++◌, Some, true, false, length, slice_get, refl, sym, ◌∙◌, ap, arith, add-one, eq-eqb, inl, inr}
-use Rattle.std.proofs.lemmas.Bool.{cases_lt}
+use Rattle.std.proofs.Common.{◌≡◌, ◌≢◌, set, get_or-set_other, get_or-set_same, ℕ, zero, suc, ◌+◌, ◌<◌, ◌≤◌, ◌==◌, List, [], ◌∷◌, ◌++◌, Some, true, false, length, slice_get, if◌then◌else◌, refl, sym, ◌∙◌, ap, arith, add-one, eq-eqb, inl, inr}
+use Rattle.std.proofs.lemmas.Bool.{cases_lt, lt-ltb, le-ltb}
 use Rattle.std.proofs.lemmas.Bool.Decides.{eqb_tells}
-use Rattle.std.proofs.lemmas.Grind.{common_steps}
 use Rattle.knox_words.specs.Bits.{Bits}
 use Rattle.circuit_nodes.specs.declared.node.Arg.{Arg}
 use Rattle.circuit_nodes.specs.declared.node.Node.{Node}
 use Rattle.circuit_nodes.specs.declared.node.Node.TheVariants as node
-use Rattle.circuit_nodes.specs.Values.{Given, Value, value_at, level, level_or_zero, constant, zero_word, IsFilled}
+use Rattle.circuit_nodes.specs.Sources.{room_word, room_arg}
+use Rattle.circuit_nodes.specs.Values.{arg_word, Given, Value, value_at, level, level_or_zero, constant, zero_word, IsFilled}
 
 same : (a b : ℕ) → a ≡ b → a == b ≡ true
 same a b e = eq-eqb a b e
@@ -49,6 +49,18 @@ fewer g ns room i j le f k h =
 pub stands : (g : Given) (ns : List Node) (i k : ℕ) (n : Node) → k < i → slice_get ns k ≡ Some n → value_at g ns i k ≡ level g (value_at g ns k) n
 stands g ns i k n h e = value_at-at g ns i k h ∙ ap (level_or_zero g (value_at g ns k)) e
 
+-- what a filled scratch area holds
+pub room_word-filled : (g : Given) (ns : List Node) (room : List Bits) (i k : ℕ) → IsFilled g ns room i → room_word room i k ≡ value_at g ns i k 0
+room_word-filled g ns room i k f = elim (cases_lt k i) [
+  | inl lt ↦ rw (lt-ltb k i lt) (f k lt)
+  | inr le ↦ rw (le-ltb k i le) (ap (λ (v : Value). v 0) (sym (value_at-none g ns i k le)))
+]
+
+pub room_arg-filled : (g : Given) (ns : List Node) (room : List Bits) (i : ℕ) (a : Arg) → IsFilled g ns room i → room_arg room i a ≡ arg_word (value_at g ns i) a
+room_arg-filled g ns room i a f = rw (room_word-filled g ns room i a.node f) refl
+
+pub ruleset room_steps = (room_word-filled, room_arg-filled)
+
 pub ruleset place_steps = (value_at-own, value_at-past, value_at-none, value_at-at, fewer, stands)
 
 -- a node that is no array gives one word at each index
@@ -67,6 +79,20 @@ flat g at (node.Pick c a b) p q r j k = absurd (q c a b refl)
 flat g at (node.Read a i) p q r j k = refl
 flat g at (node.Write a i w) p q r j k = absurd (r a i w refl)
 
+slice_get-append : (ns ms : List Node) (i : ℕ) → i < length ns → slice_get (ns ++ ms) i ≡ slice_get ns i
+slice_get-append [] ms i h = absurd (omega arith)
+slice_get-append (n ∷ ns) ms zero h = refl
+slice_get-append (n ∷ ns) ms (suc i) h = slice_get-append ns ms i (omega arith)
+
+-- nor as later nodes are added
+pub value_at-append : (g : Given) (ns ms : List Node) (i k : ℕ) → i ≤ length ns → value_at g (ns ++ ms) i k ≡ value_at g ns i k
+value_at-append g ns ms zero k h = refl
+value_at-append g ns ms (suc i) k h =
+    let lt : i < length ns = omega arith in
+    let le : i ≤ length ns = omega arith in
+    let before : value_at g (ns ++ ms) i ≡ value_at g ns i = (λ t j. value_at-append g ns ms i j le t) in
+    rw (slice_get-append ns ms i lt) (ap (λ (at : ℕ → Value). if k == i then level_or_zero g at (slice_get ns i) else at k) before)
+
 -- one more place is filled
 pub filled-more : (g : Given) (ns : List Node) (room : List Bits) (i : ℕ) (w : Bits) → i < length room → IsFilled g ns room i → w ≡ value_at g ns (i + 1) i 0 → IsFilled g ns (set room i w) (i + 1)
 filled-more g ns room i w h f e k lt = elim (cases_lt k i) [
@@ -78,4 +104,7 @@ filled-more g ns room i w h f e k lt = elim (cases_lt k i) [
       rw is (rw get_or-set_same e)
 ]
 
-pub ruleset filling = (filled-more)
+pub filled-none : (g : Given) (ns : List Node) (room : List Bits) → IsFilled g ns room 0
+filled-none g ns room k h = absurd (omega arith)
+
+pub ruleset filling = (filled-more, filled-none, fewer)

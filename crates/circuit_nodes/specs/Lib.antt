@@ -1,2 +1,5 @@
 pub mod Values
+pub mod Ticks
+pub mod Starts
 pub mod Hops
+pub mod Sources

@@ -4,12 +4,37 @@ ghost use Rattle.knox_words.specs.Bits.{word_at};
 ghost use Rattle.knox_words.specs.Ops.{slice_or, uext_or, sext_or};
 ghost use Rattle.circuit_nodes.specs.Values.{given, arg_word, value_at, IsFilled};
 ghost use Rattle.circuit_nodes.specs.Hops.{Leads};
+ghost use Rattle.circuit_nodes.specs.Sources.{room_word, room_arg};
 
 use crate::node::{Arg, Node};
 use knox_words::{Op1, Word};
 
+/// The word of a node before `upto` in a scratch area.
+fn room_word(room: &[Word], upto: usize, node: u32) -> Word
+    ensures { result ≡ room_word room.now upto node }
+{
+    let at = node as usize;
+    if at < upto {
+        knox_words::word_at(room, at)
+    } else {
+        knox_words::zero()
+    }
+}
+
+/// The word of an operand over the nodes before `upto`, in a scratch area.
+pub(crate) fn room_arg(room: &[Word], upto: usize, arg: Arg) -> Word
+    ensures { result ≡ room_arg room.now upto arg }
+{
+    let word = room_word(room, upto, arg.node);
+    if arg.complement {
+        knox_words::op1(Op1::Not, word)
+    } else {
+        word
+    }
+}
+
 /// The word of a node before `upto`, whose words `room` holds.
-#[tactic(auto, using(crate::proofs::Places::place_steps))]
+#[tactic(auto, using(crate::proofs::Places::room_steps))]
 fn word_before(
     nodes: &[Node],
     inputs: &[Word],
@@ -21,16 +46,12 @@ fn word_before(
     requires { IsFilled (given inputs.now state.now) nodes.now room.now upto }
     ensures { result ≡ value_at (given inputs.now state.now) nodes.now upto node 0 }
 {
-    let at = node as usize;
-    if at < upto {
-        knox_words::word_at(room, at)
-    } else {
-        knox_words::zero()
-    }
+    room_word(room, upto, node)
 }
 
-/// The word of an operand over the nodes before `upto`.
-pub(crate) fn arg_before(
+/// The word of an operand over the nodes before `upto`, whose words `room` holds.
+#[tactic(auto, using(crate::proofs::Places::room_steps))]
+fn arg_before(
     nodes: &[Node],
     inputs: &[Word],
     state: &[Word],
@@ -41,20 +62,23 @@ pub(crate) fn arg_before(
     requires { IsFilled (given inputs.now state.now) nodes.now room.now upto }
     ensures { result ≡ arg_word (value_at (given inputs.now state.now) nodes.now upto) arg }
 {
-    let word = word_before(nodes, inputs, state, room, upto, arg.node);
-    if arg.complement {
-        knox_words::op1(Op1::Not, word)
-    } else {
-        word
-    }
+    room_arg(room, upto, arg)
 }
 
 /// The node at a place.
-pub(crate) fn node_at(nodes: &[Node], at: usize) -> Node
+pub(crate) fn node_at(nodes: &[Node], at: usize) -> &Node
     requires { at < length nodes.now }
-    ensures { slice_get nodes.now at ≡ Some result }
+    ensures { slice_get nodes.now at ≡ Some result.now }
 {
-    nodes[at]
+    &nodes[at]
+}
+
+/// The same word, made of its parts: a copy of a whole word would copy what stands between them.
+pub(crate) fn by_parts(word: Word) -> Word
+    ensures { result ≡ word }
+{
+    let _width = word.width();
+    knox_words::uext(word, 0)
 }
 
 /// What a node leads to at an index: its word there, or a node before it with the same word there.
@@ -79,19 +103,19 @@ fn follow(
     ensures { Leads (given inputs.now state.now) nodes.now upto at index result }
 {
     match node_at(nodes, at) {
-        Node::Array(first) => Hop::Stop(knox_words::word_far(state, first, index)),
+        Node::Array(first) => Hop::Stop(knox_words::word_far(state, *first, index)),
         Node::Pick(c, a, b) => {
-            if arg_before(nodes, inputs, state, room, at, c).value() == 1 {
-                Hop::Go(a)
+            if arg_before(nodes, inputs, state, room, at, *c).value() == 1 {
+                Hop::Go(*a)
             } else {
-                Hop::Go(b)
+                Hop::Go(*b)
             }
         }
         Node::Write(a, i, w) => {
-            if arg_before(nodes, inputs, state, room, at, i).value() == index {
-                Hop::Stop(arg_before(nodes, inputs, state, room, at, w))
+            if arg_before(nodes, inputs, state, room, at, *i).value() == index {
+                Hop::Stop(arg_before(nodes, inputs, state, room, at, *w))
             } else {
-                Hop::Go(a)
+                Hop::Go(*a)
             }
         }
         _ => Hop::Stop(knox_words::word_at(room, at)),
@@ -165,44 +189,68 @@ fn node_word(nodes: &[Node], inputs: &[Word], state: &[Word], room: &[Word], at:
     ensures { result ≡ value_at (given inputs.now state.now) nodes.now (at + 1) at 0 }
 {
     match node_at(nodes, at) {
-        Node::Const(w) => w,
-        Node::Input(p) => knox_words::word_at(inputs, p as usize),
-        Node::State(p) => knox_words::word_at(state, p as usize),
-        Node::Array(p) => knox_words::word_at(state, p as usize),
-        Node::Un(o, a) => knox_words::op1(o, arg_before(nodes, inputs, state, room, at, a)),
+        Node::Const(w) => *w,
+        Node::Input(p) => knox_words::word_at(inputs, *p as usize),
+        Node::State(p) => knox_words::word_at(state, *p as usize),
+        Node::Array(p) => knox_words::word_at(state, *p as usize),
+        Node::Un(o, a) => knox_words::op1(*o, arg_before(nodes, inputs, state, room, at, *a)),
         Node::Bin(o, a, b) => knox_words::op2_or(
-            o,
-            arg_before(nodes, inputs, state, room, at, a),
-            arg_before(nodes, inputs, state, room, at, b),
+            *o,
+            arg_before(nodes, inputs, state, room, at, *a),
+            arg_before(nodes, inputs, state, room, at, *b),
         ),
         Node::Slice(a, high, low_bit) => {
-            slice_word(arg_before(nodes, inputs, state, room, at, a), high, low_bit)
+            slice_word(
+                arg_before(nodes, inputs, state, room, at, *a),
+                *high,
+                *low_bit,
+            )
         }
-        Node::Uext(a, n) => uext_word(arg_before(nodes, inputs, state, room, at, a), n),
-        Node::Sext(a, n) => sext_word(arg_before(nodes, inputs, state, room, at, a), n),
+        Node::Uext(a, n) => uext_word(arg_before(nodes, inputs, state, room, at, *a), *n),
+        Node::Sext(a, n) => sext_word(arg_before(nodes, inputs, state, room, at, *a), *n),
         Node::Ite(c, a, b) => knox_words::choose(
-            arg_before(nodes, inputs, state, room, at, c),
-            arg_before(nodes, inputs, state, room, at, a),
-            arg_before(nodes, inputs, state, room, at, b),
+            arg_before(nodes, inputs, state, room, at, *c),
+            arg_before(nodes, inputs, state, room, at, *a),
+            arg_before(nodes, inputs, state, room, at, *b),
         ),
         Node::Pick(c, a, b) => {
-            if arg_before(nodes, inputs, state, room, at, c).value() == 1 {
-                word_before(nodes, inputs, state, room, at, a)
+            if arg_before(nodes, inputs, state, room, at, *c).value() == 1 {
+                word_before(nodes, inputs, state, room, at, *a)
             } else {
-                word_before(nodes, inputs, state, room, at, b)
+                word_before(nodes, inputs, state, room, at, *b)
             }
         }
         Node::Read(a, i) => {
-            let index = arg_before(nodes, inputs, state, room, at, i).value();
-            indexed(nodes, inputs, state, room, at, a, index)
+            let index = arg_before(nodes, inputs, state, room, at, *i).value();
+            indexed(nodes, inputs, state, room, at, *a, index)
         }
         Node::Write(a, i, w) => {
-            if arg_before(nodes, inputs, state, room, at, i).value() == 0 {
-                arg_before(nodes, inputs, state, room, at, w)
+            if arg_before(nodes, inputs, state, room, at, *i).value() == 0 {
+                arg_before(nodes, inputs, state, room, at, *w)
             } else {
-                word_before(nodes, inputs, state, room, at, a)
+                word_before(nodes, inputs, state, room, at, *a)
             }
         }
+    }
+}
+
+/// Fills the places from `from` on up to `upto`, where those before `from` are filled.
+#[tactic(auto, using(crate::proofs::Places::filling))]
+pub(crate) fn fill_more(
+    nodes: &[Node],
+    inputs: &[Word],
+    state: &[Word],
+    room: &mut [Word],
+    from: usize,
+    upto: usize,
+)
+    requires room { length room.old ≡ length nodes.now }
+    requires upto { upto ≤ length nodes.now }
+    requires filled { IsFilled (given inputs.now state.now) nodes.now room.old from }
+    ensures { IsFilled (given inputs.now state.now) nodes.now room.new upto }
+{
+    for at in from..upto {
+        room[at] = by_parts(node_word(nodes, inputs, state, room, at));
     }
 }
 
@@ -213,9 +261,7 @@ pub fn fill(nodes: &[Node], inputs: &[Word], state: &[Word], room: &mut [Word])
     requires { length room.old ≡ length nodes.now }
     ensures { IsFilled (given inputs.now state.now) nodes.now room.new (length nodes.now) }
 {
-    for at in 0..nodes.len() {
-        room[at] = node_word(nodes, inputs, state, room, at);
-    }
+    fill_more(nodes, inputs, state, room, 0, nodes.len());
 }
 
 /// The words of operands, over a filled scratch area.
@@ -233,6 +279,7 @@ pub fn arg_words(
     ensures { out.new ≡ map (arg_word (value_at (given inputs.now state.now) nodes.now (length nodes.now))) args.now }
 {
     for k in 0..args.len() {
-        out[k] = arg_before(nodes, inputs, state, room, nodes.len(), args[k]);
+        let word = arg_before(nodes, inputs, state, room, nodes.len(), args[k]);
+        out[k] = by_parts(word);
     }
 }

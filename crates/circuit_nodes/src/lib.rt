@@ -1,10 +1,19 @@
 //! The nodes of a circuit with their operands by place, and their values: words, and arrays of
-//! words. Start at `Node`; `specs/Values.antt` defines the value of a node, after BTOR2. `fill`
-//! evaluates all nodes into a scratch area, and nothing takes memory.
+//! words. Start at `Node`; `specs/Values.antt` defines the value of a node, `specs/Ticks.antt` a
+//! tick, after BTOR2, and `specs/Starts.antt` states that are built one after another. `fill`
+//! evaluates all nodes into a scratch area, `advance` ticks in place, and nothing takes memory.
 #![tactic(auto)]
 
+mod chain;
 mod eval;
 mod node;
+mod power;
+mod tick;
 
 pub use eval::{arg_words, fill};
-pub use node::{Arg, Node};
+pub use node::{Arg, Next, Node};
+pub use power::{Fresh, Start, build_states};
+pub use tick::{advance, has_words};
+
+#[cfg(test)]
+mod tests;

@@ -27,3 +27,10 @@ pub enum Node {
     Read(u32, Arg),
     Write(u32, Arg, Arg),
 }
+
+/// What a cell takes at a tick: the word of an operand, or the first words of an array node.
+#[derive(Clone, Copy, Debug, PartialEq, Eq)]
+pub enum Next {
+    Word(Arg),
+    Array { node: u32, words: u32 },
+}
