@@ -13,3 +13,4 @@ pub mod Lawfully
 pub mod Computed
 pub mod Walked
 pub mod Meeting
+pub mod Tested

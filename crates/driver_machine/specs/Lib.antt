@@ -11,3 +11,4 @@ pub mod Fits
 pub mod Lawful
 pub mod Means
 pub mod Slow
+pub mod Outcomes

@@ -2,7 +2,7 @@
 ghost use Rattle.std.specs.Prelude.{◌≡◌, ℕ, true, length, slice_get, slice_index, slice_set, Some};
 ghost use Rattle.knox_words.specs.Bits.{Bits};
 ghost use Rattle.knox_words.specs.Lists.{Words, fit, fits};
-ghost use Rattle.knox_theory.specs.Design.{Config, Design};
+ghost use Rattle.knox_theory.specs.Design.{Config, Design, finish_tests};
 ghost use Rattle.knox_theory.specs.Lawful.{IsDriver};
 ghost use Rattle.knox_circuit.specs.Circuit.{cells_of, input_widths, state_widths, output_widths};
 ghost use Rattle.knox_lang.specs.declared.parts.OpHead.{OpHead};
@@ -12,6 +12,7 @@ ghost use Rattle.knox_lang.specs.Operation.{arg_widths};
 ghost use Rattle.knox_lang.specs.WellFormed.{local_widths};
 ghost use Rattle.driver_machine.specs.Left.{Left, start, step};
 ghost use Rattle.driver_machine.specs.Moves.{IsMove};
+ghost use Rattle.driver_machine.specs.Outcomes.{tests_left};
 ghost use Rattle.driver_machine.specs.Fits.{fits_config};
 ghost use Rattle.driver_machine.specs.Lawful.{HasDriver};
 
@@ -34,6 +35,15 @@ pub fn drivers_are_lawful(c: &Circuit, d: &DriverProgram)
 /// tests are those of the parts on the way.
 pub fn moves_are_steps(c: &Circuit, d: &DriverProgram)
     ensures { (x : Config Left) → IsMove c.now.lines d.now x }
+{
+    let _lines = c.lines();
+    let _parts = d.parts();
+}
+
+/// In a design that has the driver, the tests of all moves to the body's end are those of all parts
+/// that are left.
+pub fn moves_meet_the_tests(c: &Circuit, d: &DriverProgram)
+    ensures { (g : Design Left) → HasDriver c.now.lines d.now g → (x : Config Left) → finish_tests g x ≡ tests_left c.now.lines d.now x }
 {
     let _lines = c.lines();
     let _parts = d.parts();

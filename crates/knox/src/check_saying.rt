@@ -1,5 +1,5 @@
 //! The lines of a check.
-ghost use Rattle.std.specs.Prelude.{◌≡◌, IfOk, string_bytes};
+ghost use Rattle.std.specs.Prelude.{◌≡◌, ◌++◌, codes, IfOk, string_bytes};
 ghost use Rattle.knox.specs.CheckLines.{rejected_line, placed as placed_at, fault_shown, fault_line};
 
 use knox_text::Place;
@@ -33,6 +33,16 @@ pub fn placed(alloc: Global, at: Place, word: &[u8]) -> Result<Vec<u8>, AllocErr
     Ok(shown)
 }
 
+/// The line of the text with a letter, of which this is shown.
+pub fn of_text(alloc: Global, letter: &[u8], shown: &[u8]) -> Result<Vec<u8>, AllocError>
+    ensures { IfOk result (λ line. line.items ≡ (codes "text " ++ letter.now) ++ shown.now) }
+{
+    let mut line = Vec::from_slice(alloc, b"text ")?;
+    line.extend_from_slice(letter)?;
+    line.extend_from_slice(shown)?;
+    Ok(line)
+}
+
 /// The place and the name of a fault.
 fn fault_at(alloc: Global, why: ProofFault) -> Result<Vec<u8>, AllocError>
     ensures { IfOk result (λ shown. shown.items ≡ fault_shown why) }
@@ -51,8 +61,6 @@ pub fn fault(alloc: Global, letter: &[u8], why: ProofFault) -> Result<Vec<u8>, A
     ensures { IfOk result (λ line. line.items ≡ fault_line letter.now why) }
 {
     let shown = fault_at(alloc, why)?;
-    let mut line = Vec::from_slice(alloc, b"text ")?;
-    line.extend_from_slice(letter)?;
-    line.extend_from_slice(shown.as_slice())?;
+    let line = of_text(alloc, letter, shown.as_slice())?;
     Ok(line)
 }

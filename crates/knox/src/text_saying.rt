@@ -2,7 +2,7 @@
 ghost use Rattle.std.specs.Prelude.{◌≡◌, IfOk};
 ghost use Rattle.knox.specs.TextLines.{letter_shown, lang_shown, script_shown, why_shown, text_line};
 
-use crate::check_saying::placed;
+use crate::check_saying::{of_text, placed};
 use expr_read::LangWhy;
 use knox_verify::{Letter, TextWhy};
 use script_read::ScriptWhy;
@@ -68,8 +68,6 @@ pub fn text_fault(alloc: Global, letter: Letter, why: TextWhy) -> Result<Vec<u8>
     ensures { IfOk result (λ line. line.items ≡ text_line letter why) }
 {
     let shown = why_shown(alloc, why)?;
-    let mut line = Vec::from_slice(alloc, b"text ")?;
-    line.extend_from_slice(letter_shown(letter))?;
-    line.extend_from_slice(shown.as_slice())?;
+    let line = of_text(alloc, letter_shown(letter), shown.as_slice())?;
     Ok(line)
 }
