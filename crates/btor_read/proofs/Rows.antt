@@ -1,13 +1,16 @@
 -- Tokens, numbers and text lines, step by step.
-use Rattle.std.proofs.Common.{◌≡◌, ℕ, ◌<◌, ◌≤◌, ◌==◌, ◌&&◌, nat_lt, nat_le, Bool, true, false, List, [], ◌∷◌, ◌++◌, length, reverse, Option, Some, None, refl, sym, ◌∙◌, ap, arith, eqb-true, lt-ltb, if◌then◌else◌}
-use Rattle.std.proofs.lemmas.Bool.{lt-leb, le-ltb}
+use Rattle.std.proofs.Common.{◌≡◌, ℕ, ◌<◌, ◌≤◌, ◌==◌, ◌&&◌, ◌||◌, is_none, inl, inr, nat_lt, nat_le, Bool, true, false, List, [], ◌∷◌, ◌++◌, length, reverse, Option, Some, None, refl, sym, ◌∙◌, ap, arith, eqb-true, lt-ltb, if◌then◌else◌}
+use Rattle.std.proofs.lemmas.Bool.{cases_lt, le-leb, lt-leb, le-ltb}
 use Rattle.std.proofs.lemmas.List.{reverse-append, append-nil}
 use Rattle.knox_text.specs.Lines.{begins_with}
 use Rattle.knox_text.specs.Tokens.{token, tokens, bare_tokens}
 use Rattle.knox_text.proofs.TokenLemmas.{bare-more, bare-none}
 use Rattle.circuit_lines.specs.declared.line.Shape.{Shape}
 use Rattle.circuit_lines.specs.declared.line.Line.{Line}
-use Rattle.knox_circuit.specs.Form.{last_number, is_shape, is_line}
+use Rattle.circuit_lines.specs.declared.fault.Why.{Why}
+use Rattle.circuit_lines.specs.declared.fault.Why.TheVariants as why
+use Rattle.circuit_rules.specs.Rules.{last_number, is_out_of_order, is_too_far, where_so, shape_broken}
+use Rattle.knox_circuit.specs.Form.{is_plain, is_line}
 use Rattle.btor_read.specs.Grammar.{◌>>=◌, Tokens, uncommented, number_at, shape_at, symbol_of, line_of, row, formed}
 use Rattle.btor_read.specs.Growing.{above, grown}
 
@@ -95,14 +98,25 @@ grown-one before l = ap (λ (ls : List Line). if formed ls then Some (before ++ 
 refused-one : (before : List Line) (l : Line) → is_line (reverse before) l ≡ false → grown before (Some (l ∷ [])) ≡ None
 refused-one before l h = grown-one before l ∙ ap (λ (b : Bool). if b && formed (reverse before) then Some (before ++ l ∷ []) else None) h
 
-line-low : (before : List Line) (l : Line) → nat_lt (last_number before) l.number ≡ false → is_line before l ≡ false
-line-low before l h = ap (λ (b : Bool). nat_le l.at 1000000 && nat_lt (length before) 1000000 && b && is_shape before l.shape) h ∙ rest (nat_le l.at 1000000 && nat_lt (length before) 1000000) where
-  rest : (b : Bool) → (b && false && is_shape before l.shape) ≡ false
-  rest true = refl
-  rest false = refl
+broken-still : (b : Bool) (w : Why) (o : Option Why) → is_none o ≡ false → is_none (where_so b w o) ≡ false
+broken-still true w o h = refl
+broken-still false w o h = h
 
-line-late : (before : List Line) (l : Line) → nat_le l.at 1000000 ≡ false → is_line before l ≡ false
-line-late before l h = ap (λ (b : Bool). b && nat_lt (length before) 1000000 && nat_lt (last_number before) l.number && is_shape before l.shape) h
+line-low : (before : List Line) (l : Line) → nat_lt (last_number before) l.number ≡ false → is_line before l ≡ false
+line-low before l h =
+    let order : is_none (where_so (is_out_of_order before l) why.Order (shape_broken before l.shape)) ≡ false =
+    ap (λ (b : Bool). is_none (where_so b why.Order (shape_broken before l.shape))) (low (nat_lt (last_number before) l.number) refl h) in
+    ap (λ (b : Bool). b && is_plain before l.shape)
+    (broken-still (is_too_far before l) why.TooManyLines _ (broken-still (l.number == 0) why.Number _ order)) where
+      low : (b : Bool) → nat_lt (last_number before) l.number ≡ b → b ≡ false → nat_le l.number (last_number before) ≡ true
+      low b e h = elim (cases_lt (last_number before) l.number) [
+        | inl lt ↦ let yes : nat_lt (last_number before) l.number ≡ true = lt-ltb (last_number before) l.number lt in cc
+        | inr le ↦ le-leb l.number (last_number before) le
+      ]
+
+line-late : (before : List Line) (l : Line) → nat_lt 1000000 l.at ≡ true → is_line before l ≡ false
+line-late before l h =
+    ap (λ (b : Bool). is_none (where_so (b || nat_le 1000000 (length before)) why.TooManyLines (where_so (l.number == 0) why.Number (where_so (is_out_of_order before l) why.Order (shape_broken before l.shape)))) && is_plain before l.shape) h
 
 -- the line of a text line has that line's number
 line-place : (at : ℕ) (ts : Tokens) (l : Line) → line_of at ts ≡ Some l → l.at ≡ at
@@ -127,7 +141,7 @@ pub grown-late : (at : ℕ) (before : List Line) (ts : Tokens) (b : Bool) → b 
 grown-late at before ts b e h late = ap (grown before) (row-line at ts b e h) ∙ by_line (line_of at ts) refl where
   by_line : (o : Option Line) → line_of at ts ≡ o → grown before (o >>= λ l. Some (l ∷ [])) ≡ None
   by_line None q = refl
-  by_line (Some l) q = refused-one before l (line-late (reverse before) l (ap (λ (k : ℕ). nat_le k 1000000) (line-place at ts l q) ∙ lt-leb at 1000000 late))
+  by_line (Some l) q = refused-one before l (line-late (reverse before) l (ap (λ (k : ℕ). nat_lt 1000000 k) (line-place at ts l q) ∙ lt-ltb 1000000 at late))
 
 pub grown-low : (at last : ℕ) (before : List Line) (ts : Tokens) (b : Bool) → b ≡ (length ts == 0) → b ≡ false → last ≡ last_number (reverse before) → above last (line_of at ts) ≡ None → grown before (row at ts) ≡ None
 grown-low at last before ts b e h is a = ap (grown before) (row-line at ts b e h) ∙ by_line (line_of at ts) a where

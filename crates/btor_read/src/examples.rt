@@ -26,5 +26,5 @@ pub fn circuits_as_expected()
     ensures cell { size_of (codes "1 sort bitvec 1\n2 zero 1\n3 state 1\n4 init 1 3 2\n5 next 1 3 3\n") ≡ Some 5 }
     ensures no_next { size_of (codes "1 sort bitvec 1\n2 zero 1\n3 state 1\n4 init 1 3 2\n") ≡ None }
     ensures twice { size_of (codes "1 sort bitvec 1\n1 zero 1\n") ≡ None }
-    ensures wide { size_of (codes "1 sort bitvec 9\n") ≡ None }
+    ensures wide { size_of (codes "1 sort bitvec 129\n") ≡ None }
 {}

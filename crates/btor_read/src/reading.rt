@@ -1,7 +1,7 @@
 //! Reading a circuit, line after line.
 ghost use Rattle.std.specs.Prelude.{◌≡◌, ◌≢◌, ◌≤◌, ◌∷◌, ◌++◌, [], length, reverse, Some, None, true, IfOk, IfErr, OnOk};
 ghost use Rattle.knox_text.specs.Tokens.{bare_tokens};
-ghost use Rattle.knox_circuit.specs.Form.{last_number};
+ghost use Rattle.circuit_rules.specs.Rules.{last_number};
 ghost use Rattle.btor_read.specs.Grammar.{uncommented, shape_at, symbol_of, line_of, row, formed, circuit_of};
 ghost use Rattle.btor_read.specs.Growing.{above, grown};
 

@@ -49,7 +49,7 @@ fn has_sizes(alloc: Global, text: &[u8], lines: usize, inputs: usize, cells: usi
 }
 
 /// Texts of the form in unusual spelling.
-const UNUSUAL: [&[u8]; 11] = [
+const UNUSUAL: [&[u8]; 12] = [
     b"; a comment alone",
     b"\n\n  \t\n",
     b"1 sort bitvec 1\r\n2 zero 1\r\n",
@@ -59,6 +59,7 @@ const UNUSUAL: [&[u8]; 11] = [
     b"1 sort bitvec 1 ;a b c",
     b"1 sort bitvec 1 x ; y",
     b"7 sort bitvec 8\n4294967295 constd 7 000255 @7",
+    b"7 sort bitvec 128\n8 constd 7 -170141183460469231731687303715884105728",
     b"1 sort bitvec 1\n2 sort bitvec 1\n3 zero 1\n4 not 2 3",
     b"1 sort bitvec 1\n2 zero 1\n3 state 1\n4 next 1 3 2",
 ];
@@ -117,7 +118,7 @@ const REFUSED: [&[u8]; 43] = [
     b"1 sort bitvec",
     b"1 sort bitvec x",
     b"1 sort bitvec 0",
-    b"1 sort bitvec 9",
+    b"1 sort bitvec 129",
     b"1 sort bitvec 1 a b",
     b"1 sort bitvec 1;a b",
     b"1 sort bitvec 1\r",
@@ -135,7 +136,7 @@ const REFUSED: [&[u8]; 43] = [
     b"1 sort bitvec 1\n2 consth 1 1",
     b"1 sort bitvec 1\n2 constd 1",
     b"1 sort bitvec 1\n2 constd 1 2",
-    b"1 sort bitvec 1\n2 constd 1 -1",
+    b"1 sort bitvec 1\n2 constd 1 -2",
     b"1 sort bitvec 1\n2 constd 1 x",
     b"1 sort bitvec 1\n2 sort array 1 1",
     b"1 sort bitvec 1\n2 zero 1\n3 not 1 -2",
@@ -191,7 +192,7 @@ fn operands_and_widths(rt: HostRuntime) {
     let alloc = rt.alloc();
     assert!(rt; is_refused(alloc, b"1 sort bits 1", 1, Why::Operand));
     assert!(rt; is_refused(alloc, b"1 sort bitvec 1 a b", 1, Why::Operand));
-    assert!(rt; is_refused(alloc, b"1 sort bitvec 9", 1, Why::Sort));
+    assert!(rt; is_refused(alloc, b"1 sort bitvec 129", 1, Why::Sort));
     assert!(rt; is_refused(alloc, b"1 sort bitvec 2\n2 constd 1 4", 2, Why::Digits));
     assert!(rt;
         is_refused(

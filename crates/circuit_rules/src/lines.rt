@@ -139,6 +139,19 @@ impl Lines {
         self.lines.as_slice()
     }
 
+    /// The lines as a list of their own.
+    pub fn into_items(self) -> Items<Line>
+        ensures { result ≡ self }
+    {
+        let Lines {
+            lines,
+            entries: _entries,
+            last: _last,
+            words: _words,
+        } = self;
+        lines
+    }
+
     /// How many lines there are.
     pub fn len(&self) -> usize
         ensures { result ≡ length self.now }

@@ -25,14 +25,14 @@ type Edit = (Which, &'static [u8], &'static [u8]);
 pub(crate) const LAST: &[u8] = b"21 output 12 ok\n";
 
 const CIRCUITS: [&[u8]; 15] = [
-    // A width over 8, a sort and constants that are not of the form.
-    b"22 sort bitvec 9\n",
+    // A width over 128, a sort and constants that are not of the form.
+    b"22 sort bitvec 129\n",
     b"22 sort array 1 1\n",
     b"22 one 1\n",
     b"22 const 1 1\n",
-    // A constant that is too large, one with a minus, and operators that are not of the form.
+    // A constant that is too large, one too small, and operators that are not of the form.
     b"22 constd 2 4\n",
-    b"22 constd 2 -1\n",
+    b"22 constd 2 -3\n",
     b"22 add 3 10 10\n",
     b"22 not 3 -10\n",
     // Numbers that stand twice or fall, and an operand that names no node.

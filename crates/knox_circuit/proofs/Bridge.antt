@@ -13,7 +13,7 @@ use Rattle.circuit_lines.specs.Nodes.{next_of}
 use Rattle.circuit_nodes.specs.declared.node.Node.{Node}
 use Rattle.circuit_nodes.specs.Values.{Value, zero_word, arg_word, value_at, level_or_zero}
 use Rattle.circuit_nodes.specs.Values as places
-use Rattle.circuit_nodes.proofs.Places.{value_at-at, value_at-later, value_at-none}
+use Rattle.circuit_nodes.proofs.Places.{value_at-at, value_at-later, value_at-none, value_at-append}
 use Rattle.knox_circuit.specs.declared.circuit.Cell.{Cell}
 use Rattle.knox_circuit.specs.Meaning.{given, operand, word, level, value_of}
 use Rattle.knox_circuit.specs.States.{cell_of}
@@ -22,24 +22,9 @@ use Rattle.knox_circuit.specs.Resolved.{no_place, place_of, arg_of, arg_or_zero,
 use Rattle.knox_circuit.proofs.Tests.{and-left, and-right, is_none-none}
 use Rattle.knox_circuit.proofs.Words.{is_of_words, AreOfWords, index-none}
 
-slice_get-front : (ns m : List Node) (i : ℕ) → i < length ns → slice_get (ns ++ m) i ≡ slice_get ns i
-slice_get-front [] m i h = absurd (omega arith)
-slice_get-front (x ∷ ns) m zero h = refl
-slice_get-front (x ∷ ns) m (suc i) h = slice_get-front ns m i (omega arith)
-
 slice_get-end : (ns : List Node) (x : Node) → slice_get (ns ++ x ∷ []) (length ns) ≡ Some x
 slice_get-end [] x = refl
 slice_get-end (y ∷ ns) x = slice_get-end ns x
-
--- nodes past the first i don't matter
-pub value_at-front : (g : places.Given) (ns m : List Node) (i : ℕ) → i ≤ length ns → (k : ℕ) → value_at g (ns ++ m) i k ≡ value_at g ns i k
-value_at-front g ns m zero h k = refl
-value_at-front g ns m (suc i) h k =
-    let below : i < length ns = omega arith in
-    let le : i ≤ length ns = omega arith in
-    let same : value_at g (ns ++ m) i ≡ value_at g ns i = (λ j n. value_at-front g ns m i le n j) in
-    ap (λ (at : ℕ → Value). if k == i then level_or_zero g at (slice_get (ns ++ m) i) else at k) same
-    ∙ ap (λ (s : Option Node). if k == i then level_or_zero g (value_at g ns i) s else value_at g ns i k) (slice_get-front ns m i below)
 
 pub length-nodes_of : (cells : List Cell) (past : List Line) → length (nodes_of cells past) ≡ length past
 length-nodes_of cells [] = refl
@@ -132,7 +117,7 @@ value-place g cells (l ∷ before) f few n =
     let le : length before ≤ length ns = omega (arith, ends) in
     let fewer : length before ≤ 1000000 = omega arith in
     let below : length before < suc (length before) = omega arith in
-    let front : value_at g (ns ++ nd ∷ []) (length before) ≡ value_at g ns (length before) = (λ j k. value_at-front g ns (nd ∷ []) (length before) le k j) in
+    let front : value_at g (ns ++ nd ∷ []) (length before) ≡ value_at g ns (length before) = (λ j k. value_at-append g ns (nd ∷ []) (length before) k le j) in
     let hyp : Meet v (value_at g ns (length before)) before = value-place g cells before f.1 fewer in
     let last : slice_get (ns ++ nd ∷ []) (length before) ≡ Some nd = subst (λ z. slice_get (ns ++ nd ∷ []) z ≡ Some nd) ends (slice_get-end ns nd) in
     let own = level (given g.inputs (held_by cells g.state)) before v l.number l.shape in

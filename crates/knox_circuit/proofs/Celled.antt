@@ -15,13 +15,15 @@ use Rattle.circuit_lines.specs.Nodes.{node_width, next_of, size}
 use Rattle.knox_circuit.specs.Meaning.{given}
 use Rattle.knox_circuit.specs.States.{words_in, cell_of, state_cell, if_some, cell_among, cells_among, state_among, states_among}
 use Rattle.knox_circuit.specs.Circuit.{cells_of, state_value, held_from, held_by, values, state_widths, input_widths}
-use Rattle.knox_circuit.specs.Form.{is_width, last_number, IsInForm}
+use Rattle.circuit_rules.specs.Rules.{last_number}
+use Rattle.knox_circuit.specs.Form.{IsInForm}
 use Rattle.knox_circuit.specs.Whole.{is_fed, IsTabled}
 use Rattle.knox_circuit.proofs.Tests.{and-left, and-right, is_none-none}
 use Rattle.knox_circuit.proofs.Earlier.{differs}
 use Rattle.knox_circuit.proofs.Formed.{form_index}
 use Rattle.knox_circuit.proofs.Evaluated.{flat-words}
-use Rattle.knox_circuit.proofs.Sized.{line-above, line-shape, own-sort, sort-grows, sort-inside}
+use Rattle.knox_circuit.proofs.Ruled.{is_width, line-above}
+use Rattle.knox_circuit.proofs.Sized.{line-sort, sort-grows, sort-inside}
 use Rattle.knox_circuit.proofs.Fitting.{input-fits, value-fits}
 use Rattle.knox_circuit.proofs.Initial.{fed-parts}
 
@@ -109,7 +111,7 @@ held-here all before l s f is fed =
     let cs = cells_among all before in
     let c = state_cell before l s (words_in cs) in
     let made : cells_among all (l ∷ before) ≡ cs ++ c ∷ [] = ap (λ (z : List Cell). cs ++ z) (own-cell all before l s (words_in cs) (ap state_sort is) fed) in
-    let wide : IsTrue (is_width (sort_width before s)) = own-sort before l.shape s (line-shape before l f.0) (ap sort_named is) in
+    let wide : IsTrue (is_width (sort_width before s)) = line-sort before l s f (ap sort_named is) in
     let up : last_number before < l.number = line-above before l f.0 in
     let flat : state_widths (c ∷ []) ≡ sort_width before s ∷ [] = rw (form_index before s f.1) refl in
     let widths : state_widths (cells_among all (l ∷ before)) ≡ state_widths cs ++ sort_width before s ∷ [] =

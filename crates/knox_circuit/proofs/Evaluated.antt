@@ -19,7 +19,7 @@ use Rattle.knox_circuit.specs.Resolved.{no_place, nodes_of, output_args, next_ar
 use Rattle.circuit_nodes.specs.Values.{Value, Given, given, arg_word, value_at}
 use Rattle.knox_circuit.specs.Whole.{IsTabled}
 use Rattle.circuit_nodes.proofs.Places.{value_at-none}
-use Rattle.knox_circuit.proofs.Formed.{form-words}
+use Rattle.knox_circuit.proofs.Ruled.{form-words}
 use Rattle.knox_circuit.proofs.Bridge.{value-place, output-words, next-words, length-nodes_of}
 use Rattle.knox_circuit.proofs.Tests.{and-left, and-right, is_none-none}
 

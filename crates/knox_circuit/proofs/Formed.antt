@@ -1,32 +1,32 @@
 -- Lines of the form, and the tables of more and more lines.
-use Rattle.std.proofs.Common.{◌≡◌, ℕ, zero, suc, ◌+◌, ◌<◌, ◌≤◌, nat_le, nat_lt, ◌^◌, min, ℤ, pos, negsuc, List, [], ◌∷◌, ◌++◌, Option, Some, None, true, false, IsTrue, is_none, length, length-append, take, reverse, slice_get, refl, sym, ◌∙◌, ap, subst, arith, lit<, inl, inr}
+use Rattle.std.proofs.Common.{◌≡◌, Bool, ◌&&◌, ℕ, zero, suc, ◌+◌, ◌<◌, ◌≤◌, nat_le, ℤ, List, [], ◌∷◌, ◌++◌, Option, Some, None, true, false, IsTrue, is_none, length, length-append, take, reverse, slice_get, refl, sym, ◌∙◌, ap, subst, arith, inl, inr}
 use Rattle.std.proofs.lemmas.Bool.{cases_lt}
-use Rattle.std.proofs.lemmas.Bool.Decides.{eqb_tells}
 use Rattle.std.proofs.lemmas.List.{map-append, reverse-append, length-reverse}
 use Rattle.std.proofs.lemmas.Option.{slice_get_within}
 use Rattle.std.proofs.lemmas.List.Sums.{sum_by-append}
 use Rattle.std.proofs.lemmas.List.Folds.{list_all-append}
 use Rattle.std.specs.List.{list_all}
 use Rattle.std.proofs.lemmas.Grind.{common_steps}
-use Rattle.std.specs.Char.{digit_value}
-use Rattle.std.specs.Str.Parse.{digits_value}
-use Rattle.knox_words.specs.Bits.{word_or}
-use Rattle.std.proofs.Math.Nat.{pow-le-pow_right}
-use borrow.Author.Tests.{ltb-true, leb-true}
+use borrow.Author.Tests.{leb-true}
 use Rattle.circuit_lines.specs.declared.line.Line.{Line}
 use Rattle.circuit_lines.specs.declared.line.Shape.{Shape}
 use Rattle.circuit_lines.specs.declared.line.Shape.TheVariants as shape
 use Rattle.knox_circuit.specs.declared.circuit.Cell.{Cell}
-use Rattle.circuit_lines.specs.Sorts.{earlier, decimal, shape_of, sort_width, sort_index, input_sort, state_sort, output_operand}
+use Rattle.circuit_lines.specs.Sorts.{earlier, sort_width, sort_index, input_sort, state_sort, output_operand}
 use Rattle.knox_circuit.specs.declared.naming.Kind.TheVariants as kind
 use Rattle.knox_circuit.specs.Ports.{name_among, input_port, inputs_of, output_port, outputs_of, output_operands, one_or_none}
 use Rattle.circuit_lines.specs.Nodes.{number_of, node_width, next_of, size}
 use Rattle.knox_circuit.specs.States.{words_in, if_some, state_cell, cell_among, cells_among}
-use Rattle.knox_circuit.specs.Form.{all_digits, are_digits, constant_fits, last_number, is_shape, is_line, is_width, plain_width, IsInForm}
+use Rattle.knox_circuit.specs.Form.{is_plain, is_line, IsInForm}
 use Rattle.knox_circuit.specs.Resolved.{arg_of, output_args}
 use Rattle.knox_circuit.proofs.Earlier.{earlier-next, earlier-more}
-use Rattle.knox_circuit.proofs.Tests.{and-left, and-right}
-use Rattle.knox_circuit.proofs.Words.{is_of_words, AreOfWords, is_array, no-array, index-none}
+use Rattle.knox_circuit.proofs.Tests.{and-right}
+use Rattle.knox_circuit.proofs.Words.{index-none}
+use Rattle.knox_circuit.proofs.Ruled.{is_width, Obeys, line-obeys, line-few, form-words}
+use Rattle.knox_circuit.proofs.Sized.{line-sort, input-sort, state-sort, shown-node}
+use Rattle.circuit_rules.specs.Rules.{is_no_operand, broken}
+use Rattle.circuit_lines.specs.declared.fault.Why.{Why}
+use Rattle.std.proofs.Math.Bool.{and-false}
 
 take-whole : (lines : List Line) → take (length lines) lines ≡ lines
 take-whole lines = grind (arith, common_steps)
@@ -58,38 +58,48 @@ form-below lines (suc i) k l h le f is =
 pub form-at : (lines : List Line) (k : ℕ) (l : Line) → IsInForm (reverse lines) → slice_get lines k ≡ Some l → IsTrue (is_line (earlier lines k) l)
 form-at lines k l f is = form-below lines (length lines) k l (slice_get_within lines k l is) (omega arith) (subst IsInForm (sym (earlier-all lines)) f) is
 
-width-narrow : (w : ℕ) → IsTrue (is_width w) → w ≤ 8
-width-narrow w h = leb-true w 8 (and-right (nat_le 1 w) (nat_le w 8) h)
+width-narrow : (w : ℕ) → IsTrue (is_width w) → w ≤ 128
+width-narrow w h = leb-true w 128 (and-right (nat_le 1 w) (nat_le w 128) h)
 
-pub shape-at : (lines : List Line) (k : ℕ) (l : Line) → IsInForm (reverse lines) → slice_get lines k ≡ Some l → IsTrue (is_shape (earlier lines k) l.shape)
-shape-at lines k l f is = and-right _ _ (form-at lines k l f is)
+form-down : (lines : List Line) (i j : ℕ) → i ≤ j → j ≤ length lines → IsInForm (earlier lines j) → IsInForm (earlier lines i)
+form-down lines i zero le within f = let e : i ≡ zero = omega arith in subst (λ z. IsInForm (earlier lines z)) (sym e) f
+form-down lines i (suc j) le within f =
+    let inside : j < length lines = omega arith in
+    let fits : j ≤ length lines = omega arith in
+    let last = slice_get-some lines j inside in
+    let more : earlier lines (suc j) ≡ last.0 ∷ earlier lines j = earlier-next lines j last.0 last.1 in
+    let f' : IsInForm (last.0 ∷ earlier lines j) = subst IsInForm more f in
+    elim (cases_lt i (suc j)) [
+      | inl lt ↦ let below : i ≤ j = omega arith in form-down lines i j below fits f'.1
+      | inr ge ↦ let e : i ≡ suc j = omega arith in subst (λ z. IsInForm (earlier lines z)) (sym e) f
+    ]
 
-pub ruleset shape_at_form = (shape-at)
+form-earlier : (lines : List Line) (i : ℕ) → i ≤ length lines → IsInForm (reverse lines) → IsInForm (earlier lines i)
+form-earlier lines i le f = form-down lines i (length lines) le (omega arith) (subst IsInForm (sym (earlier-all lines)) f)
 
-input-narrow : (before : List Line) (s : Shape) (q : ℕ) → IsTrue (is_shape before s) → input_sort s ≡ Some q → sort_width before q ≤ 8
-input-narrow before (shape.Input s) q f e = let same : s ≡ q = cc in subst (λ z. sort_width before z ≤ 8) same (width-narrow (sort_width before s) f)
-input-narrow before _ q f e = cc
+-- a line with those before it
+form-here : (lines : List Line) (k : ℕ) (l : Line) → IsInForm (reverse lines) → slice_get lines k ≡ Some l → IsInForm (l ∷ earlier lines k)
+form-here lines k l f is =
+    let inside : k < length lines = slice_get_within lines k l is in
+    let within : k ≤ length lines = omega arith in
+    (form-at lines k l f is, form-earlier lines k within f)
 
-pub input-width : (lines : List Line) (k : ℕ) (l : Line) (q : ℕ) → IsInForm (reverse lines) → slice_get lines k ≡ Some l → input_sort l.shape ≡ Some q → sort_width (earlier lines k) q ≤ 8
-input-width lines k l q f is e = input-narrow (earlier lines k) l.shape q (shape-at lines k l f is) e
+pub input-width : (lines : List Line) (k : ℕ) (l : Line) (q : ℕ) → IsInForm (reverse lines) → slice_get lines k ≡ Some l → input_sort l.shape ≡ Some q → sort_width (earlier lines k) q ≤ 128
+input-width lines k l q f is e = width-narrow _ (line-sort (earlier lines k) l q (form-here lines k l f is) (input-sort l.shape q e))
 
-state-narrow : (before : List Line) (s : Shape) (q : ℕ) → IsTrue (is_shape before s) → state_sort s ≡ Some q → sort_width before q ≤ 8
-state-narrow before (shape.State s) q f e = let same : s ≡ q = cc in subst (λ z. sort_width before z ≤ 8) same (width-narrow (sort_width before s) f)
-state-narrow before _ q f e = cc
+pub state-width : (lines : List Line) (k : ℕ) (l : Line) (q : ℕ) → IsInForm (reverse lines) → slice_get lines k ≡ Some l → state_sort l.shape ≡ Some q → sort_width (earlier lines k) q ≤ 128
+state-width lines k l q f is e = width-narrow _ (line-sort (earlier lines k) l q (form-here lines k l f is) (state-sort l.shape q e))
 
-pub state-width : (lines : List Line) (k : ℕ) (l : Line) (q : ℕ) → IsInForm (reverse lines) → slice_get lines k ≡ Some l → state_sort l.shape ≡ Some q → sort_width (earlier lines k) q ≤ 8
-state-width lines k l q f is e = state-narrow (earlier lines k) l.shape q (shape-at lines k l f is) e
+shown-operand : (before : List Line) (s : Shape) (a : ℤ) → Obeys before s → output_operand s ≡ Some a → is_no_operand before a ≡ false
+shown-operand before (shape.Output b) a h e = let same : b ≡ a = cc in subst (λ z. is_no_operand before z ≡ false) same h.operand
+shown-operand before _ a h e = cc
 
-plain-narrow : (before : List Line) (a : ℤ) → IsTrue (is_width (plain_width before a)) → node_width before (number_of a) ≤ 8
-plain-narrow before (pos n) f = width-narrow (node_width before n) f
-plain-narrow before (negsuc n) f = cc
+-- the node that is shown has a width
+pub shown-width : (before : List Line) (l : Line) (a : ℤ) → IsInForm (l ∷ before) → output_operand l.shape ≡ Some a → IsTrue (is_width (node_width before (number_of a)))
+shown-width before l a f e = shown-node before f.1 a (shown-operand before l.shape a (line-obeys before l f.0) e)
 
-output-narrow : (before : List Line) (s : Shape) (a : ℤ) → IsTrue (is_shape before s) → output_operand s ≡ Some a → node_width before (number_of a) ≤ 8
-output-narrow before (shape.Output b) a f e = let same : b ≡ a = cc in subst (λ z. node_width before (number_of z) ≤ 8) same (plain-narrow before b f)
-output-narrow before _ a f e = cc
-
-pub output-width : (lines : List Line) (k : ℕ) (l : Line) (a : ℤ) → IsInForm (reverse lines) → slice_get lines k ≡ Some l → output_operand l.shape ≡ Some a → node_width (earlier lines k) (number_of a) ≤ 8
-output-width lines k l a f is e = output-narrow (earlier lines k) l.shape a (shape-at lines k l f is) e
+pub output-width : (lines : List Line) (k : ℕ) (l : Line) (a : ℤ) → IsInForm (reverse lines) → slice_get lines k ≡ Some l → output_operand l.shape ≡ Some a → node_width (earlier lines k) (number_of a) ≤ 128
+output-width lines k l a f is e = width-narrow _ (shown-width (earlier lines k) l a (form-here lines k l f is) e)
 
 pub ruleset form_steps = (input-width, state-width, output-width)
 
@@ -106,43 +116,12 @@ args-more lines all k l is =
 
 pub ruleset table_steps = (earlier-all, inputs-more, outputs-more, args-more)
 
-shape-words : (before : List Line) (s : Shape) → IsTrue (is_shape before s) → IsTrue (is_of_words s)
-shape-words before (shape.Array i e) f = cc
-shape-words before (shape.Read s a i) f = cc
-shape-words before (shape.Write s a i w) f = cc
-shape-words before _ f = refl
-
--- lines of the form speak of no arrays
-pub form-words : (past : List Line) → IsInForm past → AreOfWords past
-form-words [] f = tt
-form-words (l ∷ before) f = (shape-words before l.shape (and-right _ _ f.0), form-words before f.1)
-
-pub shape-in_form : (past : List Line) → IsInForm past → (n : ℕ) → is_array (shape_of past n) ≡ false
-shape-in_form past f n = no-array past (form-words past f) n
-
-form-down : (lines : List Line) (i j : ℕ) → i ≤ j → j ≤ length lines → IsInForm (earlier lines j) → IsInForm (earlier lines i)
-form-down lines i zero le within f = let e : i ≡ zero = omega arith in subst (λ z. IsInForm (earlier lines z)) (sym e) f
-form-down lines i (suc j) le within f =
-    let inside : j < length lines = omega arith in
-    let fits : j ≤ length lines = omega arith in
-    let last = slice_get-some lines j inside in
-    let more : earlier lines (suc j) ≡ last.0 ∷ earlier lines j = earlier-next lines j last.0 last.1 in
-    let f' : IsInForm (last.0 ∷ earlier lines j) = subst IsInForm more f in
-    elim (cases_lt i (suc j)) [
-      | inl lt ↦ let below : i ≤ j = omega arith in form-down lines i j below fits f'.1
-      | inr ge ↦ let e : i ≡ suc j = omega arith in subst (λ z. IsInForm (earlier lines z)) (sym e) f
-    ]
-
-form-earlier : (lines : List Line) (i : ℕ) → i ≤ length lines → IsInForm (earlier lines (length lines)) → IsInForm (earlier lines i)
-form-earlier lines i le f = form-down lines i (length lines) le (omega arith) f
-
 pub form_index : (past : List Line) (s : ℕ) → IsInForm past → sort_index past s ≡ None
 form_index past s f = index-none past (form-words past f) s
 
 -- no sort of the form has indices
 pub no_index : (lines : List Line) (k : ℕ) (s : ℕ) → IsInForm (reverse lines) → k ≤ length lines → sort_index (earlier lines k) s ≡ None
-no_index lines k s f le =
-    form_index (earlier lines k) s (form-earlier lines k le (subst IsInForm (sym (earlier-all lines)) f))
+no_index lines k s f le = form_index (earlier lines k) s (form-earlier lines k le f)
 
 pub slice_get_in : (lines : List Line) (k : ℕ) (l : Line) → slice_get lines k ≡ Some l → k < length lines
 slice_get_in lines k l is = slice_get_within lines k l is
@@ -191,29 +170,6 @@ cells-few all before l first o cells new k h e =
     let one = one-more_cell all before l first o in
     omega arith
 
-pub digits-plain : (w : ℕ) (ds : List ℕ) → IsTrue (are_digits w ds) → decimal w ds ≡ word_or w (digits_value 10 ds)
-digits-plain w [] f = cc
-digits-plain w (d ∷ ds) f = elim (eqb_tells d 45) [
-  | inl p ↦
-      let bad : IsTrue (nat_lt (digit_value d) 10) = and-left _ (all_digits ds) (and-right _ _ (and-left _ _ f)) in
-      let worse : IsTrue (nat_lt (digit_value 45) 10) = subst (λ z. IsTrue (nat_lt (digit_value z) 10)) p.1 bad in
-      cc
-  | inr p ↦ rw p.0 refl
-]
-
-low_power : (w : ℕ) → w ≤ 8 → 2 ^ w ≤ 256
-low_power w h = let high : 2 ^ w ≤ 2 ^ 8 = pow-le-pow_right {n = 2} (lit< tt) h in high
-
--- a decimal constant of the form
-pub decimal_form : (before : List Line) (s : ℕ) (ds : List ℕ) → IsTrue (constant_fits before s ds) → decimal (sort_width before s) ds ≡ word_or (sort_width before s) (min (digits_value 10 ds) 4294967296)
-decimal_form before s ds f =
-    let w = sort_width before s in
-    let narrow : w ≤ 8 = width-narrow w (and-left _ _ f) in
-    let below : digits_value 10 ds < 2 ^ w = ltb-true _ _ (and-right _ _ (and-right _ _ f)) in
-    let power : 2 ^ w ≤ 256 = low_power w narrow in
-    let same : digits_value 10 ds ≡ min (digits_value 10 ds) 4294967296 = omega arith in
-    digits-plain w ds (and-right _ _ f) ∙ ap (word_or w) same
-
 pub cell-is : (before : List Line) (l : Line) (s first width : ℕ) (name : List ℕ) → name ≡ name_among kind.State before l.symbol → width ≡ sort_width before s → sort_index before s ≡ None → record { name = name; number = l.number; width = width; index = None; first = first } ≡ state_cell before l s first
 cell-is before l s first width name e f h = rw (e, f, h) refl
 
@@ -223,13 +179,20 @@ form-push lines l f h = subst IsInForm (sym (reverse-append lines (l ∷ []))) (
 form-few : (past : List Line) → IsInForm past → length past ≤ 1000000
 form-few [] f = omega arith
 form-few (l ∷ before) f =
-    let below : length before < 1000000 = ltb-true (length before) 1000000 (and-right _ _ (and-left _ _ (and-left _ _ f.0))) in
+    let below : length before < 1000000 = line-few before l f.0 in
     omega (arith, below)
 
 pub few-lines : (lines : List Line) → IsInForm (reverse lines) → length lines ≤ 1000000
 few-lines lines f = let turned : length (reverse lines) ≤ 1000000 = form-few (reverse lines) f in subst (λ z. z ≤ 1000000) (length-reverse lines) turned
 
-pub ruleset draft_steps = (earlier-all, form-push, few-lines)
+-- a refused line isn't one of the form
+pub not-plain : (before : List Line) (l : Line) → is_plain before l.shape ≡ false → is_line before l ≡ false
+not-plain before l h = ap (λ (b : Bool). is_none (broken before l) && b) h ∙ and-false _
 
-pub last-is : (lines : List Line) (k : ℕ) (l : Line) → slice_get lines k ≡ Some l → length lines ≡ k + 1 → last_number (earlier lines (length lines)) ≡ l.number
-last-is lines k l is e = ap (λ (n : ℕ). last_number (earlier lines n)) e ∙ ap last_number (earlier-more lines k l is)
+pub not-ruled : (before : List Line) (l : Line) (w : Why) → broken before l ≡ Some w → is_line before l ≡ false
+not-ruled before l w h = ap (λ (o : Option Why). is_none o && is_plain before l.shape) h
+
+pub line-ruled : (before : List Line) (l : Line) → broken before l ≡ None → is_plain before l.shape ≡ true → IsTrue (is_line before l)
+line-ruled before l h p = ap (λ (o : Option Why). is_none o && is_plain before l.shape) h ∙ p
+
+pub ruleset draft_steps = (earlier-all, form-push, few-lines, not-plain, not-ruled, line-ruled)

@@ -1,5 +1,5 @@
 -- In the form every `init` is by a constant line, which has a word.
-use Rattle.std.proofs.Common.{◌≡◌, ℕ, ◌<◌, ◌≤◌, ◌&&◌, ℤ, pos, negsuc, List, [], ◌∷◌, ◌++◌, Option, Some, None, Bool, true, false, IsTrue, is_some, refl, sym, ◌∙◌, ap, subst, arith, inl, inr, if◌then◌else◌}
+use Rattle.std.proofs.Common.{◌≡◌, ℕ, ◌+◌, ◌<◌, ◌≤◌, ◌&&◌, ℤ, pos, negsuc, List, [], ◌∷◌, ◌++◌, Option, Some, None, Bool, true, false, IsTrue, is_some, refl, sym, ◌∙◌, ap, subst, arith, inl, inr, if◌then◌else◌}
 use Rattle.std.specs.List.{list_all}
 use Rattle.std.proofs.lemmas.Bool.Decides.{eqb_tells}
 use Rattle.std.proofs.lemmas.List.Folds.{list_all-append}
@@ -10,22 +10,28 @@ use Rattle.circuit_lines.specs.declared.line.Shape.TheVariants as shape
 use Rattle.circuit_lines.specs.Sorts.{shape_of, literal, state_sort, init_pair}
 use Rattle.knox_circuit.specs.States.{StateLine, state_among, states_among}
 use Rattle.circuit_lines.specs.Nodes.{names, named_or, init_of}
-use Rattle.knox_circuit.specs.Form.{is_constant_shape, is_constant, last_number, is_shape, IsInForm}
-use Rattle.knox_circuit.specs.Resolved.{literal_of, literal_operand}
+use Rattle.circuit_rules.specs.Rules.{last_number}
+use Rattle.knox_circuit.specs.Form.{is_constant_shape, is_constant, is_plain, IsInForm}
+use Rattle.knox_circuit.specs.Resolved.{literal_of, complement_word, literal_operand}
 use Rattle.knox_circuit.specs.Whole.{is_fed}
 use Rattle.knox_circuit.proofs.Tests.{and-left, and-right}
 use Rattle.knox_circuit.proofs.Earlier.{differs}
 use Rattle.knox_circuit.proofs.Formed.{form_index}
-use Rattle.knox_circuit.proofs.Sized.{line-above, line-shape, found-below}
+use Rattle.knox_circuit.proofs.Ruled.{line-above}
+use Rattle.knox_circuit.proofs.Sized.{found-below}
 use Rattle.knox_circuit.proofs.Fitting.{literal-found}
 
--- an operand that is a constant line
+-- an operand that is a constant line, or the complement of one
 abbrev pub HasWord : List Line → ℤ → Type 0
 HasWord past v = IsTrue (is_some (literal_operand past (Some v)))
 
 own-word : (before : List Line) (sh : Shape) → IsTrue (is_constant_shape (Some sh)) → IsTrue (is_some (literal before sh))
-own-word before (shape.Zero s) h = refl
+own-word before (shape.Const s ds) h = refl
 own-word before (shape.Constd s ds) h = refl
+own-word before (shape.Consth s ds) h = refl
+own-word before (shape.Zero s) h = refl
+own-word before (shape.One s) h = refl
+own-word before (shape.Ones s) h = refl
 own-word before _ h = cc
 
 shape-word : (past : List Line) (n : ℕ) → IsTrue (is_constant_shape (shape_of past n)) → IsTrue (is_some (literal_of past n))
@@ -39,9 +45,17 @@ shape-word (l ∷ before) n h = elim (eqb_tells l.number n) [
       subst (λ (b : Bool). IsTrue (is_some (if b then literal before l.shape else literal_of before n))) (sym p.0) (shape-word before n there)
 ]
 
+complement-some : (o : Option Bits) → IsTrue (is_some o) → IsTrue (is_some (complement_word o))
+complement-some None h = cc
+complement-some (Some w) h = refl
+
+some-complement : (o : Option Bits) → IsTrue (is_some (complement_word o)) → IsTrue (is_some o)
+some-complement None h = cc
+some-complement (Some w) h = refl
+
 constant-word : (before : List Line) (v : ℤ) → IsTrue (is_constant before v) → HasWord before v
 constant-word before (pos n) h = shape-word before n h
-constant-word before (negsuc n) h = cc
+constant-word before (negsuc n) h = complement-some (literal_of before (n + 1)) (shape-word before (n + 1) h)
 
 literal-grows : (before : List Line) (l : Line) (n : ℕ) (w : Bits) → IsInForm (l ∷ before) → literal_of before n ≡ Some w → literal_of (l ∷ before) n ≡ Some w
 literal-grows before l n w f e =
@@ -51,25 +65,28 @@ literal-grows before l n w f e =
     let ne : (l.number ≡ n → ⊥) = (λ q. omega (arith, q, low, up)) in
     ap (λ (b : Bool). if b then literal before l.shape else literal_of before n) (differs l.number n ne) ∙ e
 
-word-grows : (before : List Line) (l : Line) (v : ℤ) → IsInForm (l ∷ before) → HasWord before v → HasWord (l ∷ before) v
-word-grows before l (negsuc n) f h = cc
-word-grows before l (pos n) f h = by_word (literal_of before n) refl h where
+found-grows : (before : List Line) (l : Line) (n : ℕ) → IsInForm (l ∷ before) → IsTrue (is_some (literal_of before n)) → IsTrue (is_some (literal_of (l ∷ before) n))
+found-grows before l n f h = by_word (literal_of before n) refl h where
   by_word : (o : Option Bits) → literal_of before n ≡ o → IsTrue (is_some o) → IsTrue (is_some (literal_of (l ∷ before) n))
   by_word None e h = cc
   by_word (Some w) e h = subst (λ (o : Option Bits). IsTrue (is_some o)) (sym (literal-grows before l n w f e)) refl
 
-init-step : (before : List Line) (l : Line) (sh : Shape) (n : ℕ) (others : Option ℤ) (v : ℤ) → IsInForm (l ∷ before) → IsTrue (is_shape before sh) → (others ≡ Some v → HasWord before v) → named_or (init_pair sh) n others ≡ Some v → HasWord (l ∷ before) v
+word-grows : (before : List Line) (l : Line) (v : ℤ) → IsInForm (l ∷ before) → HasWord before v → HasWord (l ∷ before) v
+word-grows before l (pos n) f h = found-grows before l n f h
+word-grows before l (negsuc n) f h = complement-some (literal_of (l ∷ before) (n + 1)) (found-grows before l (n + 1) f (some-complement (literal_of before (n + 1)) h))
+
+init-step : (before : List Line) (l : Line) (sh : Shape) (n : ℕ) (others : Option ℤ) (v : ℤ) → IsInForm (l ∷ before) → IsTrue (is_plain before sh) → (others ≡ Some v → HasWord before v) → named_or (init_pair sh) n others ≡ Some v → HasWord (l ∷ before) v
 init-step before l (shape.Init s x y) n others v f h old e = by_name (names x n) e where
   by_name : (b : Bool) → (if b then Some y else others) ≡ Some v → HasWord (l ∷ before) v
   by_name true e =
       let is : y ≡ v = cc in
-      subst (HasWord (l ∷ before)) is (word-grows before l y f (constant-word before y (and-right _ _ (and-left _ _ h))))
+      subst (HasWord (l ∷ before)) is (word-grows before l y f (constant-word before y h))
   by_name false e = word-grows before l v f (old e)
 init-step before l _ n others v f h old e = word-grows before l v f (old e)
 
 init-word : (past : List Line) → IsInForm past → (n : ℕ) (v : ℤ) → init_of past n ≡ Some v → HasWord past v
 init-word [] f n v e = cc
-init-word (l ∷ before) f n v e = init-step before l l.shape n (init_of before n) v f (line-shape before l f.0) (init-word before f.1 n v) e
+init-word (l ∷ before) f n v e = init-step before l l.shape n (init_of before n) v f (and-right _ _ f.0) (init-word before f.1 n v) e
 
 -- an `init` of the form: none, or one with a word
 abbrev pub IsInitial : List Line → Option ℤ → Type 0

@@ -1,13 +1,15 @@
 pub mod Tests
 pub mod Earlier
 pub mod Words
+pub mod Ruled
+pub mod Numbers
 pub mod Bridge
+pub mod Sized
 pub mod Formed
 pub mod Lists
 pub mod Complete
 pub mod Evaluated
 pub mod Powered
-pub mod Sized
 pub mod Fitting
 pub mod Initial
 pub mod Filling

@@ -1,9 +1,11 @@
 -- What power-cycles do where every state is a cell of one word, and an `init` is by a constant line.
-use Rattle.std.proofs.Common.{◌≡◌, ℕ, ◌≤◌, ℤ, pos, negsuc, List, [], ◌∷◌, ◌++◌, Option, Some, None, Bool, true, false, IsTrue, is_some, unwrap_or, length, length-append, map, reverse, take, drop, refl, sym, ◌∙◌, ap, arith, inl, inr, if◌then◌else◌}
+use Rattle.std.proofs.Common.{◌≡◌, ℕ, ◌+◌, ◌≤◌, ℤ, pos, negsuc, List, [], ◌∷◌, ◌++◌, Option, Some, None, Bool, true, false, IsTrue, is_some, unwrap_or, length, length-append, map, reverse, take, drop, refl, sym, ◌∙◌, ap, arith, inl, inr, if◌then◌else◌}
 use Rattle.std.specs.List.{list_all}
 use Rattle.std.proofs.lemmas.Bool.Decides.{eqb_tells}
 use Rattle.std.proofs.lemmas.List.{length-map}
 use Rattle.knox_words.specs.Bits.{Bits, word_at}
+use Rattle.knox_words.specs.Ops.{op1_value}
+use Rattle.knox_words.specs.declared.op.Op1.TheVariants.{Not}
 use Rattle.circuit_lines.specs.declared.line.Line.{Line}
 use Rattle.circuit_lines.specs.declared.line.Shape.{Shape}
 use Rattle.circuit_lines.specs.declared.line.Shape.TheVariants as shape
@@ -16,7 +18,7 @@ use Rattle.circuit_lines.specs.Nodes.{next_of}
 use Rattle.knox_circuit.specs.Circuit.{Circuit, cells_of, value_words}
 use Rattle.knox_circuit.specs.Power.{first_keep, fresh_words, noise_left, with_state, built, nothing_held, states_of, state_after_power, factory_state}
 use Rattle.knox_circuit.specs.Filled.{known_words, filled}
-use Rattle.knox_circuit.specs.Resolved.{literal_of, literal_operand, first_word}
+use Rattle.knox_circuit.specs.Resolved.{literal_of, complement_word, literal_operand, first_word}
 use Rattle.knox_circuit.specs.Whole.{is_fed, IsTabled}
 use Rattle.knox_circuit.proofs.Tests.{and-left}
 use Rattle.knox_circuit.proofs.Evaluated.{lines-words}
@@ -48,7 +50,12 @@ value-literal g (l ∷ before) n w e = elim (eqb_tells l.number n) [
 
 first-value : (all : List Line) (held : ℕ → Value) (v : ℤ) (w : Bits) → literal_operand all (Some v) ≡ Some w → value_words None (operand (value_of (given [] held) all) v) ≡ w ∷ []
 first-value all held (pos n) w e = ap (λ (v : Value). v 0 ∷ []) (value-literal (given [] held) all n w e)
-first-value all held (negsuc n) w e = cc
+first-value all held (negsuc n) w e = by_word (literal_of all (n + 1)) refl e where
+  by_word : (o : Option Bits) → literal_of all (n + 1) ≡ o → complement_word o ≡ Some w → op1_value Not (value_of (given [] held) all (n + 1) 0) ∷ [] ≡ w ∷ []
+  by_word None q e = cc
+  by_word (Some u) q e =
+      let is : op1_value Not u ≡ w = cc in
+      ap (λ (x : Value). op1_value Not (x 0) ∷ []) (value-literal (given [] held) all (n + 1) u q) ∙ ap (λ (b : Bits). b ∷ []) is
 
 fresh-filled : (all : List Line) (held : ℕ → Value) (init : Option ℤ) (ks : List (Option Bits)) (noise : List Bits) → IsInitial all init → fresh_words all held None init noise ++ filled ks (noise_left None init noise) ≡ filled (literal_operand all init ∷ ks) noise
 fresh-filled all held None ks noise h = refl

@@ -1,49 +1,35 @@
 -- Output words have the widths of their lines' nodes.
-use Rattle.std.proofs.Common.{◌≡◌, ℕ, ℤ, pos, negsuc, List, [], ◌∷◌, Option, Some, None, true, IsTrue, map, reverse, refl, sym, ap, subst}
+use Rattle.std.proofs.Common.{◌≡◌, ℕ, ℤ, List, [], ◌∷◌, Option, Some, None, true, IsTrue, map, reverse, refl, sym, subst}
 use Rattle.std.proofs.lemmas.List.{map-append}
 use Rattle.knox_words.specs.Bits.{Bits}
 use Rattle.knox_words.specs.Lists.{fit, fits}
 use Rattle.knox_words.proofs.Lists.{fit-both}
 use Rattle.circuit_lines.specs.declared.line.Line.{Line}
-use Rattle.circuit_lines.specs.declared.line.Shape.{Shape}
-use Rattle.circuit_lines.specs.declared.line.Shape.TheVariants as shape
 use Rattle.knox_circuit.specs.declared.circuit.Port.{Port}
 use Rattle.knox_circuit.specs.declared.table.Tables.{Tables}
 use Rattle.circuit_lines.specs.Sorts.{output_operand}
 use Rattle.knox_circuit.specs.Ports.{output_port, outputs_of, one_or_none, output_operands}
-use Rattle.circuit_lines.specs.Nodes.{node_width, number_of}
+use Rattle.circuit_lines.specs.Nodes.{node_width}
 use Rattle.circuit_nodes.specs.Values.{Value}
 use Rattle.knox_circuit.specs.Meaning.{word}
-use Rattle.knox_circuit.specs.Form.{is_width, plain_width, is_shape, IsInForm}
+use Rattle.knox_circuit.specs.Form.{IsInForm}
+use Rattle.knox_circuit.proofs.Ruled.{is_width}
+use Rattle.knox_circuit.proofs.Formed.{shown-width}
 use Rattle.knox_circuit.specs.Whole.{IsTabled}
 use Rattle.knox_circuit.specs.Circuit.{cells_of, values, output_words, state_widths, input_widths, output_widths}
-use Rattle.knox_circuit.proofs.Sized.{line-shape, node-grows}
+use Rattle.knox_circuit.proofs.Sized.{node-grows}
 use Rattle.knox_circuit.proofs.Celled.{values-fit}
-use Rattle.knox_circuit.proofs.Fitting.{port_widths}
-
--- nodes have words of their widths
-abbrev pub NodesFit : (ℕ → Value) → List Line → Type 0
-NodesFit at past = (n : ℕ) → IsTrue (is_width (node_width past n)) → fits (node_width past n) (at n 0) ≡ true
+use Rattle.knox_circuit.proofs.Fitting.{NodesFit, operand-word, port_widths}
 
 fewer : (at : ℕ → Value) (before : List Line) (l : Line) → IsInForm (l ∷ before) → NodesFit at (l ∷ before) → NodesFit at before
 fewer at before l f h n wide =
     let grows : node_width (l ∷ before) n ≡ node_width before n = node-grows before l f n wide in
     subst (λ (w : ℕ). fits w (at n 0) ≡ true) grows (h n (subst (λ (w : ℕ). IsTrue (is_width w)) (sym grows) wide))
 
-shown-operand : (sh : Shape) (a : ℤ) → output_operand sh ≡ Some a → sh ≡ shape.Output a
-shown-operand (shape.Output b) a e = let same : b ≡ a = cc in ap (λ z. shape.Output z) same
-shown-operand _ a e = cc
-
--- an operand of the form is a node's number
-plain-shown : (at : ℕ → Value) (before : List Line) → NodesFit at before → (a : ℤ) → IsTrue (is_width (plain_width before a)) → fits (node_width before (number_of a)) (word at a) ≡ true
-plain-shown at before h (pos n) wide = h n wide
-plain-shown at before h (negsuc n) wide = cc
-
 one-shown : (at : ℕ → Value) (before : List Line) (l : Line) → IsInForm (l ∷ before) → NodesFit at before → (o : Option ℤ) → output_operand l.shape ≡ o → fit (port_widths (output_port before l o)) (map (word at) (one_or_none o)) ≡ true
 one-shown at before l f h None e = refl
 one-shown at before l f h (Some a) e =
-    let wide : IsTrue (is_width (plain_width before a)) = subst (λ (sh : Shape). IsTrue (is_shape before sh)) (shown-operand l.shape a e) (line-shape before l f.0) in
-    rw (plain-shown at before h a wide) refl
+    rw (operand-word at before h a (shown-width before l a f e)) refl
 
 pub shown-fit : (at : ℕ → Value) (past : List Line) → IsInForm past → NodesFit at past → fit (port_widths (outputs_of past)) (map (word at) (output_operands past)) ≡ true
 shown-fit at [] f h = refl

@@ -1,38 +1,40 @@
 -- Cells and states have the widths of their nodes, and device words keep their widths at a tick.
-use Rattle.std.proofs.Common.{◌≡◌, ℕ, ◌&&◌, nat_le, ℤ, List, [], ◌∷◌, ◌++◌, Option, Some, None, Bool, true, false, IsTrue, is_none, is_some, length, map, reverse, drop, refl, sym, ◌∙◌, ap, subst, eq-eqb, if◌then◌else◌}
+use Rattle.std.proofs.Common.{pos, negsuc, ◌+◌, ◌≡◌, ℕ, ◌&&◌, nat_le, ℤ, List, [], ◌∷◌, ◌++◌, Option, Some, None, Bool, true, false, IsTrue, is_none, is_some, length, map, reverse, drop, refl, sym, ◌∙◌, ap, subst, eq-eqb, if◌then◌else◌}
 use Rattle.std.specs.List.{list_all}
 use Rattle.std.proofs.lemmas.Bool.{le-leb}
 use Rattle.std.proofs.lemmas.List.{map-append}
 use Rattle.std.proofs.lemmas.List.Folds.{list_all-append}
 use Rattle.knox_words.specs.Bits.{Bits, word_at}
 use Rattle.knox_words.specs.Lists.{fit, fits, are_widths}
+use Rattle.knox_words.specs.Ops.{op1_value}
+use Rattle.knox_words.specs.declared.op.Op1.TheVariants.{Not}
 use Rattle.knox_words.proofs.Lists.{length-fit}
+use Rattle.knox_words.proofs.Results.{op1_value-fits}
 use Rattle.circuit_lines.specs.declared.line.Line.{Line}
-use Rattle.circuit_lines.specs.declared.line.Shape.{Shape}
-use Rattle.circuit_lines.specs.declared.line.Shape.TheVariants as shape
 use Rattle.knox_circuit.specs.declared.circuit.Cell.{Cell}
 use Rattle.knox_circuit.specs.declared.circuit.Port.{Port}
 use Rattle.knox_circuit.specs.declared.table.Tables.{Tables}
 use Rattle.circuit_lines.specs.Sorts.{shape_of, sort_width, sort_named, input_sort, state_sort}
 use Rattle.knox_circuit.specs.Ports.{input_port, inputs_of}
-use Rattle.circuit_lines.specs.Nodes.{shape_width, node_width, width_named, next_of, init_of}
+use Rattle.circuit_lines.specs.Nodes.{number_of, shape_width, node_width, width_named, next_of, init_of}
 use Rattle.circuit_nodes.specs.Values.{Value}
-use Rattle.knox_circuit.specs.Meaning.{given, operand}
+use Rattle.knox_circuit.specs.Meaning.{word}
 use Rattle.knox_circuit.specs.States.{StateLine, words_in, state_cell, if_some, cell_among, cells_among, state_among, states_among}
 use Rattle.knox_circuit.specs.Circuit.{cells_of, values, operand_or_zero, next_words, state_after_tick, state_widths, input_widths}
 use Rattle.knox_circuit.specs.Power.{first_keep}
 use Rattle.knox_circuit.specs.Filled.{known_words}
-use Rattle.knox_circuit.specs.Form.{is_width, IsInForm}
-use Rattle.knox_circuit.specs.Resolved.{literal_of, literal_operand, first_word}
+use Rattle.knox_circuit.specs.Form.{IsInForm}
+use Rattle.knox_circuit.proofs.Ruled.{is_width}
+use Rattle.knox_circuit.specs.Resolved.{literal_of, complement_word, literal_operand, first_word}
 use Rattle.knox_circuit.specs.Whole.{is_fed, IsTabled}
 use Rattle.knox_circuit.proofs.Tests.{and-left}
 use Rattle.knox_circuit.proofs.Formed.{form_index}
 use Rattle.knox_circuit.proofs.Initial.{fed-parts}
 use Rattle.knox_circuit.proofs.Filling.{KnownFits, OldFits, AllKnown}
 use Rattle.knox_circuit.proofs.Evaluated.{cells-flat}
-use Rattle.knox_circuit.proofs.Sized.{line-shape, own-sort, own-node, node-grows, next-pair, init-pair}
+use Rattle.knox_circuit.proofs.Sized.{line-sort, input-sort, state-sort, own-node, node-grows, next-pair, init-pair}
 use Rattle.knox_circuit.proofs.Celled.{widths-append, flat-lengths, values-fit}
-use Rattle.knox_circuit.proofs.Fitting.{width-wide, width-narrow, port_widths, literal-fits}
+use Rattle.knox_circuit.proofs.Fitting.{width-wide, width-narrow, port_widths, literal-fits, operand-word}
 
 -- a cell has its node's width, and one word
 pub record IsSound (past : List Line) (c : Cell) : Type 0 where
@@ -55,17 +57,13 @@ sound-grows before l f (c ∷ cs) a =
     let wide : IsTrue (is_width (node_width before c.number)) = subst (λ (w : ℕ). IsTrue (is_width w)) (sym old.width) old.wide in
     (record { width = node-grows before l f c.number wide ∙ old.width; wide = old.wide; flat = old.flat }, sound-grows before l f cs a.1)
 
-state-sort : (sh : Shape) (s : ℕ) → state_sort sh ≡ Some s → sort_named sh ≡ Some s
-state-sort (shape.State q) s e = e
-state-sort _ s e = cc
-
 -- the node of a state's line has its sort's width
 own-width : (before : List Line) (l : Line) (s : ℕ) → IsInForm (l ∷ before) → state_sort l.shape ≡ Some s → (node_width (l ∷ before) l.number ≡ sort_width before s) × IsTrue (is_width (sort_width before s))
 own-width before l s f e =
     let named : sort_named l.shape ≡ Some s = state-sort l.shape s e in
     let width : node_width (l ∷ before) l.number ≡ width_named before (sort_named l.shape) =
     ap (λ (b : Bool). shape_width (l ∷ before) (if b then Some l.shape else shape_of before l.number)) (eq-eqb l.number l.number refl) ∙ own-node before l f in
-    (width ∙ ap (width_named before) named, own-sort before l.shape s (line-shape before l f.0) named)
+    (width ∙ ap (width_named before) named, line-sort before l s f named)
 
 one-sound : (all before : List Line) (l : Line) (first : ℕ) → IsInForm (l ∷ before) → (o : Option ℕ) → state_sort l.shape ≡ o → AllSound (l ∷ before) (cell_among all before l first o)
 one-sound all before l first f None e = tt
@@ -119,8 +117,8 @@ next-fits : (at : ℕ → Value) (all : List Line) → IsInForm all → ((n : �
 next-fits at all f h c sound None e given = cc
 next-fits at all f h c sound (Some v) e given =
     let p = next-pair all f c.number v e in
-    let value : fits (node_width all p.node) (at p.node 0) ≡ true = h p.node (subst (λ (w : ℕ). IsTrue (is_width w)) (sym p.same) p.wide) in
-    subst (λ (a : ℤ). fits c.width (operand at a 0) ≡ true) (sym p.is) (subst (λ (w : ℕ). fits w (at p.node 0) ≡ true) (p.same ∙ sound.width) value)
+    let value : fits (node_width all (number_of v)) (word at v) ≡ true = operand-word at all h v (subst (λ (w : ℕ). IsTrue (is_width w)) (sym p.same) p.wide) in
+    subst (λ (w : ℕ). fits w (word at v) ≡ true) (p.same ∙ sound.width) value
 
 pub next-words-fit : (at : ℕ → Value) (all : List Line) → IsInForm all → ((n : ℕ) → IsTrue (is_width (node_width all n)) → fits (node_width all n) (at n 0) ≡ true) → (cs : List Cell) → AllSound all cs → AllFed all cs → fit (state_widths cs) (next_words at all cs) ≡ true
 next-words-fit at all f h [] a b = refl
@@ -164,12 +162,21 @@ states-given all (l ∷ before) f =
 abbrev pub line_widths : List StateLine → List ℕ
 line_widths ss = map (λ (s : StateLine). s.width) ss
 
+complement-literal : (n : ℕ) (o : Option Bits) (w : Bits) → ((u : Bits) → o ≡ Some u → fits n u ≡ true) → complement_word o ≡ Some w → fits n w ≡ true
+complement-literal n None w h e = cc
+complement-literal n (Some u) w h e =
+    let is : op1_value Not u ≡ w = cc in
+    subst (λ (b : Bits). fits n b ≡ true) is (op1_value-fits Not n u (h u refl))
+
+operand-literal : (all : List Line) → IsInForm all → (v : ℤ) (w : Bits) → literal_operand all (Some v) ≡ Some w → fits (node_width all (number_of v)) w ≡ true
+operand-literal all f (pos n) w e = literal-fits all f n w e
+operand-literal all f (negsuc n) w e = complement-literal (node_width all (n + 1)) (literal_of all (n + 1)) w (λ u q. literal-fits all f (n + 1) u q) e
+
 init-fits : (all : List Line) → IsInForm all → (n width : ℕ) → node_width all n ≡ width → (o : Option ℤ) → init_of all n ≡ o → (w : Bits) → literal_operand all o ≡ Some w → fits width w ≡ true
 init-fits all f n width a None e w q = cc
 init-fits all f n width a (Some v) e w q =
     let p = init-pair all f n v e in
-    let literal : literal_of all p.node ≡ Some w = sym (ap (λ (z : ℤ). literal_operand all (Some z)) p.is) ∙ q in
-    subst (λ (k : ℕ). fits k w ≡ true) (p.same ∙ a) (literal-fits all f p.node w literal)
+    subst (λ (k : ℕ). fits k w ≡ true) (p.same ∙ a) (operand-literal all f v w q)
 
 first-fits : (all : List Line) → IsInForm all → (s : StateLine) → IsGiven all all s → KnownFits s.width (first_word all s)
 first-fits all f s a = by_word (first_word all s) refl where
@@ -214,15 +221,11 @@ one-input before l f (Some s) h =
     let wide : IsTrue (is_width w) = h s refl in
     rw (le-leb 1 w (width-wide w wide), le-leb w 128 (width-narrow w wide)) refl
 
-input-sort : (sh : Shape) (s : ℕ) → input_sort sh ≡ Some s → sort_named sh ≡ Some s
-input-sort (shape.Input q) s e = e
-input-sort _ s e = cc
-
 pub inputs-widths : (past : List Line) → IsInForm past → are_widths (port_widths (inputs_of past)) ≡ true
 inputs-widths [] f = refl
 inputs-widths (l ∷ before) f =
     let new = input_port before l (input_sort l.shape) in
-    let one = one-input before l f (input_sort l.shape) (λ s e. own-sort before l.shape s (line-shape before l f.0) (input-sort l.shape s e)) in
+    let one = one-input before l f (input_sort l.shape) (λ s e. line-sort before l s f (input-sort l.shape s e)) in
     ap are_widths (map-append (λ (p : Port). p.width) (inputs_of before) new)
     ∙ (list_all-append (λ w. nat_le 1 w && nat_le w 128) (port_widths (inputs_of before)) (port_widths new)
     ∙ rw (inputs-widths before f.1, one) refl)

@@ -1,6 +1,7 @@
 pub mod Ports
 pub mod Meaning
 pub mod Resolved
+pub mod Limited
 pub mod States
 pub mod Circuit
 pub mod Power

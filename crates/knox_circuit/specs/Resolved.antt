@@ -1,6 +1,8 @@
 -- The nodes of lines, with their operands by place.
 use Rattle.std.specs.Prelude.{ℕ, ◌+◌, ◌==◌, ℤ, pos, negsuc, List, [], ◌∷◌, ◌++◌, length, Option, Some, None, map, false, true, if◌then◌else◌}
 use Rattle.knox_words.specs.Bits.{Bits}
+use Rattle.knox_words.specs.Ops.{op1_value}
+use Rattle.knox_words.specs.declared.op.Op1.TheVariants.{Not}
 use Rattle.circuit_lines.specs.declared.line.Shape.{Shape}
 use Rattle.circuit_lines.specs.declared.line.Shape.TheVariants as shape
 use Rattle.circuit_lines.specs.declared.line.Line.{Line}
@@ -88,10 +90,15 @@ abbrev pub literal_of : List Line → ℕ → Option Bits
 literal_of [] n = None
 literal_of (l ∷ before) n = if l.number == n then literal before l.shape else literal_of before n
 
+abbrev pub complement_word : Option Bits → Option Bits
+complement_word None = None
+complement_word (Some w) = Some (op1_value Not w)
+
+-- the word of an operand that is a constant line, or the complement of one
 abbrev pub literal_operand : List Line → Option ℤ → Option Bits
 literal_operand all None = None
 literal_operand all (Some (pos n)) = literal_of all n
-literal_operand all (Some (negsuc n)) = None
+literal_operand all (Some (negsuc n)) = complement_word (literal_of all (n + 1))
 
 -- the word that a state gets by its `init`, where that is a constant line
 abbrev pub first_word : List Line → StateLine → Option Bits

@@ -1,13 +1,14 @@
 //! A circuit in the making.
-ghost use Rattle.std.specs.Prelude.{◌≡◌, ◌≢◌, ◌++◌, [], ◌∷◌, reverse, true, false, IfOk, IfErr, OnOk, OnErr, IsTrue};
+ghost use Rattle.std.specs.Prelude.{◌≡◌, ◌≢◌, ◌++◌, [], ◌∷◌, ◌⊎◌, reverse, true, false, Some, IfOk, IfErr, OnOk, OnErr, IsTrue};
+ghost use Rattle.circuit_rules.specs.Rules.{broken};
 ghost use Rattle.knox_circuit.specs.Circuit.{Circuit};
-ghost use Rattle.knox_circuit.specs.Form.{is_line};
+ghost use Rattle.knox_circuit.specs.Form.{is_plain, is_line};
 ghost use Rattle.knox_circuit.specs.Whole.{is_complete};
 
 use crate::circuit::{self, Circuit};
 use crate::form;
 use circuit_lines::{BtorFault, Line, Why};
-use sqlite_items::Items;
+use circuit_rules::Lines;
 use std::alloc::Global;
 use std::marker::Model;
 
@@ -15,7 +16,7 @@ use std::marker::Model;
 #[derive(Drop)]
 pub struct Draft {
     alloc: Global,
-    lines: Items<Line>,
+    lines: Lines,
 }
 
 impl Model for Draft {
@@ -37,23 +38,24 @@ impl Draft {
     {
         Draft {
             alloc,
-            lines: Items::new(alloc),
+            lines: Lines::new(alloc),
         }
     }
 
     /// Adds a line that is one of the form, after the lines so far. A refused line leaves the
-    /// draft as it was.
+    /// draft as it was; it isn't plain, or the first rule that it breaks is told.
     #[tactic(auto, using(crate::proofs::Formed::draft_steps))]
     pub fn add(&mut self, line: Line) -> Result<(), Why>
         ensures ok { OnOk result (self.new.lines ≡ self.old.lines ++ line ∷ []) }
         ensures accepted { OnOk result (IsTrue (is_line (reverse self.old.lines) line)) }
         ensures err { OnErr result (self.new ≡ self.old) }
         ensures refused { IfErr result (λ why. why ≢ Why.Memory → is_line (reverse self.old.lines) line ≡ false) }
+        ensures told { IfErr result (λ why. why ≢ Why.Memory → (broken (reverse self.old.lines) line ≡ Some why) ⊎ (is_plain (reverse self.old.lines) line.shape ≡ false)) }
     {
-        if !form::is_line(self.lines.as_slice(), &line) {
-            return Err(form::why(self.lines.as_slice(), &line));
+        if !form::is_plain(self.lines.as_slice(), &line.shape) {
+            return Err(Why::Unsupported);
         }
-        self.lines.push(line)?;
+        self.lines.add(line)?;
         Ok(())
     }
 
@@ -65,6 +67,6 @@ impl Draft {
         ensures refused { IfErr result (λ fault. fault.why ≢ Why.Memory → is_complete (reverse self.lines) ≡ false) }
     {
         let Draft { alloc, lines } = self;
-        circuit::make(alloc, lines)
+        circuit::make(alloc, lines.into_items())
     }
 }

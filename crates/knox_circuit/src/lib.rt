@@ -8,6 +8,7 @@ mod draft;
 mod first;
 mod form;
 mod laws;
+mod literal;
 mod look;
 mod naming;
 mod noise;

@@ -2,20 +2,19 @@
 ghost use Rattle.std.specs.Prelude.{◌≡◌, ◌≤◌, ◌<◌, ◌+◌, ◌++◌, if◌then◌else◌, length, map, reverse, slice_get, is_none, is_some, true, Some, IfOk, IfSome, IfErr, OnOk, MatchResult, IsTrue};
 ghost use Rattle.std.specs.List.{list_all};
 ghost use Rattle.std.specs.Option.{option_copied};
-ghost use Rattle.knox_words.specs.Bits.{word_or};
 ghost use Rattle.circuit_lines.specs.Sorts.{earlier, literal, input_sort, state_sort, output_operand, sort_index};
 ghost use Rattle.knox_circuit.specs.Ports.{port, input_port, inputs_of, output_port, outputs_of, output_operands, one_or_none};
 ghost use Rattle.knox_circuit.specs.States.{cell_of, cell_among, cells_among, bare_among, bares_among, state_among, states_among, state_cell, words_in};
 ghost use Rattle.circuit_lines.specs.Nodes.{next_of};
-ghost use Rattle.knox_circuit.specs.Resolved.{arg_of, array_place, arg_or_zero, held_node, state_node, choice_node, operator_node, node_of, nodes_of, output_args, next_args, first_word, literal_of, literal_operand};
-ghost use Rattle.knox_circuit.specs.Form.{IsInForm, is_shape, is_line};
+ghost use Rattle.knox_circuit.specs.Resolved.{arg_of, array_place, arg_or_zero, held_node, state_node, choice_node, operator_node, node_of, nodes_of, output_args, next_args, first_word, literal_of, complement_word, literal_operand};
+ghost use Rattle.knox_circuit.specs.Form.{IsInForm};
 
 use crate::circuit::{Cell, Port};
 use crate::naming::{self, Kind};
-use crate::{form, look};
+use crate::{literal, look};
 use circuit_lines::{Line, Shape};
 use circuit_nodes::{Arg, Node};
-use knox_words::Word;
+use knox_words::{Op1, Word};
 use sqlite_items::Items;
 use std::alloc::{AllocError, Global};
 
@@ -244,34 +243,6 @@ pub fn cells(alloc: Global, lines: &[Line]) -> Result<Items<Cell>, AllocError>
     Ok(cells)
 }
 
-/// A word of a width and a number, or the zero word where there is none.
-fn word_of(width: u32, value: u128) -> Word
-    ensures { result ≡ word_or width value }
-{
-    if width <= 128 {
-        knox_words::word_or(width as u8, value)
-    } else {
-        knox_words::zero()
-    }
-}
-
-/// The word of a constant of the form.
-#[tactic(auto, using(crate::proofs::Formed::decimal_form))]
-fn literal(lines: &[Line], at: usize, shape: &Shape) -> Option<Word>
-    requires at { at ≤ length lines.now }
-    requires form { IsTrue (is_shape (earlier lines.now at) shape.now) }
-    ensures { result ≡ literal (earlier lines.now at) shape.now }
-{
-    match shape {
-        Shape::Zero(sort) => Some(word_of(look::sort_width(lines, at, *sort), 0)),
-        Shape::Constd(sort, digits) => {
-            let value = form::number(digits.as_slice());
-            Some(word_of(look::sort_width(lines, at, *sort), u128::from(value)))
-        }
-        _ => None,
-    }
-}
-
 fn cell_at(cells: &[Cell], at: usize) -> &Cell
     requires { at < length cells.now }
     ensures { slice_get cells.now at ≡ Some result.now }
@@ -369,11 +340,10 @@ fn operator_node(cells: &[Cell], lines: &[Line], at: usize, line: &Line, inputs:
 fn node_of(cells: &[Cell], lines: &[Line], at: usize, line: &Line, inputs: u32) -> Node
     requires at { at ≤ length lines.now }
     requires few { length lines.now ≤ 1000000 }
-    requires form { IsTrue (is_shape (earlier lines.now at) line.now.shape) }
     requires inputs { inputs ≡ length (inputs_of (earlier lines.now at)) }
     ensures { result ≡ node_of cells.now (earlier lines.now at) line.now.number line.now.shape }
 {
-    match literal(lines, at, &line.shape) {
+    match literal::literal(lines, at, &line.shape) {
         Some(word) => Node::Const(word),
         None => operator_node(cells, lines, at, line, inputs),
     }
@@ -392,10 +362,9 @@ fn with_input(inputs: u32, shape: &Shape) -> u32
 }
 
 /// The nodes in line order.
-#[tactic(auto, using(crate::proofs::Formed::shape_at_form, crate::proofs::Lists::node_steps, crate::proofs::Formed::table_steps))]
+#[tactic(auto, using(crate::proofs::Lists::node_steps, crate::proofs::Formed::table_steps))]
 pub fn nodes(alloc: Global, lines: &[Line], cells: &[Cell]) -> Result<Items<Node>, AllocError>
-    requires form { IsInForm (reverse lines.now) }
-    requires few { length lines.now ≤ 1000000 }
+    requires { length lines.now ≤ 1000000 }
     ensures { IfOk result (λ nodes. nodes ≡ nodes_of cells.now (reverse lines.now)) }
 {
     let mut nodes = Items::new(alloc);
@@ -409,32 +378,41 @@ pub fn nodes(alloc: Global, lines: &[Line], cells: &[Cell]) -> Result<Items<Node
 }
 
 /// The word of the constant line with a number.
-#[tactic(auto, using(crate::proofs::Formed::shape_at_form, crate::proofs::Lists::literal_steps, crate::proofs::Formed::table_steps))]
+#[tactic(auto, using(crate::proofs::Lists::literal_steps, crate::proofs::Formed::table_steps))]
 fn literal_of(lines: &[Line], number: u64) -> Option<Word>
-    requires { IsInForm (reverse lines.now) }
     ensures { result ≡ literal_of (earlier lines.now (length lines.now)) number }
 {
     let mut found = None;
     for at in 0..lines.len() {
         let line = look::line_at(lines, at);
         if u64::from(line.number) == number {
-            found = literal(lines, at, &line.shape);
+            found = literal::literal(lines, at, &line.shape);
         }
     }
     found
 }
 
+fn complement_word(word: Option<Word>) -> Option<Word>
+    ensures { result ≡ complement_word word }
+{
+    match word {
+        None => None,
+        Some(word) => Some(knox_words::op1(Op1::Not, word)),
+    }
+}
+
+/// The word of an operand that is a constant line, or the complement of one.
 pub fn literal_operand(lines: &[Line], operand: Option<i64>) -> Option<Word>
-    requires { IsInForm (reverse lines.now) }
     ensures { result ≡ literal_operand (earlier lines.now (length lines.now)) operand }
 {
     match operand {
         None => None,
         Some(operand) => {
+            let word = literal_of(lines, look::number_of(operand));
             if operand < 0 {
-                None
+                complement_word(word)
             } else {
-                literal_of(lines, look::number_of(operand))
+                word
             }
         }
     }

@@ -1,6 +1,6 @@
 use Rattle.std.proofs.Common.{◌≡◌, ◌≤◌, ◌+◌, length, reverse, true}
 use Rattle.knox_text.specs.Lines.{lines}
-use Rattle.knox_circuit.specs.Form.{last_number}
+use Rattle.circuit_rules.specs.Rules.{last_number}
 use Rattle.btor_read.specs.Grammar.{rows, formed, circuit_of}
 use Rattle.btor_read.specs.Growing.{with_rest}
 use Rattle.btor_read.proofs.reading.read_circuit.Given as goal
