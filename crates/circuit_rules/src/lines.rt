@@ -145,6 +145,7 @@ impl Lines {
         ensures { result ≡ self }
     {
         let Lines {
+            alloc: _alloc,
             lines,
             entries: _entries,
             last: _last,
