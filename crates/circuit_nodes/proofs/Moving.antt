@@ -1,7 +1,7 @@
 -- Nodes in another order have their values.
 use Rattle.std.proofs.Common.{◌≡◌, ℕ, zero, suc, ◌<◌, ◌≤◌, ◌==◌, List, [], ◌∷◌, Some, Bool, length, slice_get, slice_index_or, map, if◌then◌else◌, refl, sym, ◌∙◌, ap, arith, eq-eqb, inl, inr}
 use Rattle.std.proofs.lemmas.Bool.{cases_lt, cases_eq, lt-ltb, le-ltb}
-use Rattle.std.proofs.lemmas.Option.{slice_get-get_or}
+use Rattle.std.proofs.lemmas.Option.{slice_get-get_or, slice_get_within}
 use Rattle.knox_words.specs.Bits.{Bits, ite_value}
 use Rattle.knox_words.specs.Ops.{op1_value, op2_or, slice_or, uext_or, sext_or}
 use Rattle.knox_words.specs.declared.op.Op1.TheVariants.{Not}
@@ -92,3 +92,8 @@ value-moved g ns places order (suc i) j k ordered few lt is =
           let le : j < i = omega arith in
           rw (differs j i ne) (value-moved g ns places order i j k ordered less le is)
     ]
+
+pub moved-whole : (g : Given) (ns : List Node) (places order : List ℕ) (j k : ℕ) → IsInOrder ns places order → length order ≤ no_place → slice_get order j ≡ Some k → value_at g (reordered ns places order) (length order) j ≡ value_at g ns (length ns) k
+moved-whole g ns places order j k ordered few is = value-moved g ns places order (length order) j k ordered few (slice_get_within order j k is) is
+
+pub ruleset order_steps = (moved-whole)
