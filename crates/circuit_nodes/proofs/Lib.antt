@@ -4,3 +4,4 @@ pub mod Taken
 pub mod Ticking
 pub mod Building
 pub mod Reading
+pub mod Moving

@@ -3,3 +3,4 @@ pub mod Ticks
 pub mod Starts
 pub mod Hops
 pub mod Sources
+pub mod Orders

@@ -7,11 +7,13 @@
 mod chain;
 mod eval;
 mod node;
+mod order;
 mod power;
 mod tick;
 
 pub use eval::{arg_words, fill};
 pub use node::{Arg, Next, Node};
+pub use order::{reordered, reordered_nodes_keep_values};
 pub use power::{Fresh, Start, build_states};
 pub use tick::{advance, has_words};
 
