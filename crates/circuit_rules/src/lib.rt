@@ -1,0 +1,13 @@
+//! The rules that the lines of a BTOR2 circuit obey, each after the lines before it. Start at
+//! `Lines`; `specs/Rules.antt` defines the rules and their order, `specs/Whole.antt` the rule of a
+//! whole circuit.
+#![tactic(auto)]
+
+mod examples;
+mod sort;
+
+pub use examples::{
+    digits_as_expected, names_as_expected, numbers_as_expected, operands_as_expected,
+    sorts_as_expected, states_as_expected, wholes_as_expected, widths_as_expected,
+};
+pub use sort::SortOf;
