@@ -4,4 +4,5 @@ pub mod Operators
 pub mod Constants
 pub mod Rules
 pub mod Whole
+pub mod Entries
 pub mod Examples

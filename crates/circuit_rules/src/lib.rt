@@ -3,11 +3,17 @@
 //! whole circuit.
 #![tactic(auto)]
 
+mod constants;
+mod entry;
 mod examples;
+mod lines;
+mod operators;
+mod rules;
 mod sort;
 
 pub use examples::{
     digits_as_expected, names_as_expected, numbers_as_expected, operands_as_expected,
     sorts_as_expected, states_as_expected, wholes_as_expected, widths_as_expected,
 };
+pub use lines::Lines;
 pub use sort::SortOf;

@@ -1,0 +1,6 @@
+pub mod Obeyed
+pub mod Found
+pub mod Valued
+pub mod Reaching
+pub mod Summed
+pub mod Adding
