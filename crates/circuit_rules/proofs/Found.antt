@@ -108,7 +108,7 @@ next-states before l m h e = of l.shape (obeys before l h).operand e where
   of (shape.Next s x v) h e = is-state before x v m ((or_parts _ _ h).0) e
   of _ h e = cc
 
-rising : (before : List Line) (l : Line) → broken before l ≡ None → last_number before < l.number
+pub rising : (before : List Line) (l : Line) → broken before l ≡ None → last_number before < l.number
 rising before l h = leb-false l.number (last_number before) (obeys before l h).order
 
 -- no number above the last one is found
@@ -120,7 +120,7 @@ none-above (l ∷ before) n r h =
     let past : entry_at before n ≡ None = none-above before n r.1 (omega arith) in
     rw (other, past) refl
 
-unmarked : (i x : Option ℕ) (n : ℕ) (o : Option Entry) → marked i x n o ≡ None → o ≡ None
+pub unmarked : (i x : Option ℕ) (n : ℕ) (o : Option Entry) → marked i x n o ≡ None → o ≡ None
 unmarked i x n None e = refl
 unmarked i x n (Some o) e = cc
 

@@ -4,3 +4,5 @@ pub mod Valued
 pub mod Reaching
 pub mod Summed
 pub mod Adding
+pub mod Earlier
+pub mod Feeding

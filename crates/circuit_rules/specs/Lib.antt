@@ -5,4 +5,5 @@ pub mod Constants
 pub mod Rules
 pub mod Whole
 pub mod Entries
+pub mod Fed
 pub mod Examples

@@ -10,6 +10,7 @@ mod lines;
 mod operators;
 mod rules;
 mod sort;
+mod whole;
 
 pub use examples::{
     digits_as_expected, names_as_expected, numbers_as_expected, operands_as_expected,

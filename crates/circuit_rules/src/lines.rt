@@ -1,18 +1,20 @@
 //! Lines that obey the rules, with what was resolved of each.
 ghost use Rattle.std.specs.Prelude.{ℕ, ℤ, ◌==◌, if◌then◌else◌, ◌≡◌, ◌≢◌, ◌++◌, [], ◌∷◌, reverse, length, max, is_some, OnOk, OnErr, OnSome, IfSome, IfNone, ◌+◌, ◌<◌, ◌≤◌, IfOk, IfErr, Some, None};
 ghost use Rattle.std.specs.BTreeMap.{get};
+ghost use Rattle.std.specs.Option.{option_map};
 ghost use Rattle.std.specs.Ordering.{nat_cmp};
 ghost use Rattle.circuit_lines.specs.declared.line.Line.{Line};
 ghost use Rattle.circuit_lines.specs.Sorts.{sort_named, init_pair, next_pair};
 ghost use Rattle.circuit_lines.specs.Nodes.{next_of, init_of, number_of};
 ghost use Rattle.circuit_rules.specs.Named.{sort_line, sort_at, is_state_shape, sort_of, node_sort, operand_sort, is_state, place_of, width_of};
 ghost use Rattle.circuit_rules.specs.Reached.{reached, leaves_of, is_input_shape};
-ghost use Rattle.circuit_rules.specs.Rules.{broken, array_words, array_size, state_words, last_number};
+ghost use Rattle.circuit_rules.specs.Rules.{AreRuled, broken, array_words, array_size, state_words, last_number};
+ghost use Rattle.circuit_rules.specs.Whole.{unfed};
 ghost use Rattle.circuit_rules.specs.Entries.{fresh, marked, with_init, with_next, target, entry_at, reach_of, entry_init, entry_next, entry_sort};
 
 use crate::entry::{Entry, Reach};
-use crate::rules;
 use crate::sort::{self, SortOf};
+use crate::{rules, whole};
 use circuit_lines::{Line, Shape, Why};
 use sqlite_items::Items;
 use std::alloc::{AllocError, Global};
@@ -94,6 +96,7 @@ fn target(state: i64) -> Option<u64>
 /// Lines in the order of the text, each of which breaks no rule after those before it.
 #[derive(Drop)]
 pub struct Lines {
+    alloc: Global,
     lines: Items<Line>,
     entries: BTreeMap<u64, Entry>,
     last: u32,
@@ -121,6 +124,7 @@ impl Lines {
         ensures { result ≡ [] }
     {
         Lines {
+            alloc,
             lines: Items::new(alloc),
             entries: BTreeMap::new(alloc),
             last: 0,
@@ -173,6 +177,22 @@ impl Lines {
                 Err(Why::Memory)
             }
         }
+    }
+
+    /// Each line breaks no rule after those before it.
+    pub fn are_ruled(&self)
+        ensures { AreRuled (reverse self.now) }
+    {
+        let _ = &self.lines;
+    }
+
+    /// The text line of the first line, in the order of the text, that breaks the rule of a whole
+    /// circuit: a state with an `init` and without a `next`, or an `output`, `next` or `bad` line
+    /// that hangs on a state without a `next`.
+    pub fn unfed(&self) -> Result<Option<u32>, AllocError>
+        ensures { IfOk result (λ found. found ≡ option_map (λ l. l.at) (unfed (reverse self.now))) }
+    {
+        whole::unfed(self.alloc, self)
     }
 
     /// What was resolved of the line with a number.
@@ -249,21 +269,21 @@ impl Lines {
         self.sort(operand.unsigned_abs())
     }
 
-    /// Whether a state has an `init`.
-    pub(crate) fn has_init(&self, state: i64) -> bool
-        ensures { result ≡ is_some (init_of (reverse self.now) (number_of state)) }
+    /// Whether the state with a number has an `init`.
+    pub(crate) fn has_init(&self, number: u64) -> bool
+        ensures { result ≡ is_some (init_of (reverse self.now) number) }
     {
-        match self.entry(state.unsigned_abs()) {
+        match self.entry(number) {
             None => false,
             Some(entry) => entry.init,
         }
     }
 
-    /// Whether a state has a `next`.
-    pub(crate) fn has_next(&self, state: i64) -> bool
-        ensures { result ≡ is_some (next_of (reverse self.now) (number_of state)) }
+    /// Whether the state with a number has a `next`.
+    pub(crate) fn has_next(&self, number: u64) -> bool
+        ensures { result ≡ is_some (next_of (reverse self.now) number) }
     {
-        match self.entry(state.unsigned_abs()) {
+        match self.entry(number) {
             None => false,
             Some(entry) => entry.next,
         }

@@ -334,7 +334,7 @@ fn breaks_init(lines: &Lines, shape: &Shape) -> bool
 {
     match shape {
         Shape::Init(_, state, value) => {
-            if lines.has_init(*state) {
+            if lines.has_init(state.unsigned_abs()) {
                 return true;
             }
             is_barred(lines, *state, *value)
@@ -347,7 +347,7 @@ fn breaks_next(lines: &Lines, shape: &Shape) -> bool
     ensures { result ≡ breaks_next (reverse lines.now) shape.now }
 {
     match shape {
-        Shape::Next(_, state, _) => lines.has_next(*state),
+        Shape::Next(_, state, _) => lines.has_next(state.unsigned_abs()),
         _ => false,
     }
 }
