@@ -142,11 +142,15 @@ pub fn states_as_expected()
     ensures second_init { after (small ++ line 13 (shape.Init 2 (pos 7) (pos 11)) ∷ []) (line 14 (shape.Init 2 (pos 7) (pos 11))) ≡ Some why.Init }
     ensures next { after small (line 13 (shape.Next 2 (pos 7) (pos 6))) ≡ None }
     ensures second_next { after (small ++ line 13 (shape.Next 2 (pos 7) (pos 8)) ∷ []) (line 14 (shape.Next 2 (pos 7) (pos 8))) ≡ Some why.Next }
+    ensures second_next_of_array { after (small ++ line 13 (shape.Next 5 (pos 9) (pos 9)) ∷ []) (line 14 (shape.Next 5 (pos 9) (pos 9))) ≡ Some why.Next }
+    ensures operand_before_next { after (small ++ line 13 (shape.Next 2 (pos 7) (pos 8)) ∷ []) (line 14 (shape.Next 2 (pos 7) (pos 99))) ≡ Some why.Operand }
     ensures sort_before_next { after (small ++ line 13 (shape.Next 2 (pos 7) (pos 8)) ∷ []) (line 14 (shape.Next 2 (pos 7) (pos 9))) ≡ Some why.Sort }
     ensures next_of_another { after (small ++ line 13 (shape.Next 2 (pos 7) (pos 8)) ∷ []) (line 14 (shape.Next 2 (pos 8) (pos 8))) ≡ None }
     ensures sum { array_words (arrays 15) ≡ 61440 }
     ensures full { broken (arrays 15) (line 40 (shape.State 3)) ≡ None }
     ensures too_many_words { broken (arrays 16) (line 40 (shape.State 3)) ≡ Some why.TooManyWords }
+    ensures a_few_words_more { broken (line 39 (shape.Array 1 1) ∷ arrays 16) (line 40 (shape.State 39)) ≡ Some why.TooManyWords }
+    ensures order_before_words { broken (arrays 16) (line 26 (shape.State 3)) ≡ Some why.Order }
     ensures single_word { broken (arrays 16) (line 40 (shape.State 1)) ≡ None }
 {}
 

@@ -10,6 +10,8 @@ mod lines;
 mod operators;
 mod rules;
 mod sort;
+#[cfg(test)]
+mod tests;
 mod whole;
 
 pub use examples::{

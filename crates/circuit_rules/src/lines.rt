@@ -132,9 +132,10 @@ impl Lines {
         }
     }
 
-    /// The lines in the order of the text.
+    /// The lines in the order of the text. Each breaks no rule after those before it.
     pub fn as_slice(&self) -> &[Line]
-        ensures { result.now ≡ self.now }
+        ensures value { result.now ≡ self.now }
+        ensures ruled { AreRuled (reverse self.now) }
     {
         self.lines.as_slice()
     }
@@ -179,13 +180,6 @@ impl Lines {
         }
     }
 
-    /// Each line breaks no rule after those before it.
-    pub fn are_ruled(&self)
-        ensures { AreRuled (reverse self.now) }
-    {
-        let _ = &self.lines;
-    }
-
     /// The text line of the first line, in the order of the text, that breaks the rule of a whole
     /// circuit: a state with an `init` and without a `next`, or an `output`, `next` or `bad` line
     /// that hangs on a state without a `next`.
@@ -197,7 +191,7 @@ impl Lines {
 
     /// What was resolved of the line with a number.
     #[tactic(auto, using(crate::proofs::Found::marks_found, crate::proofs::Found::narrow_sorts))]
-    pub fn entry(&self, number: u64) -> Option<Entry>
+    pub(crate) fn entry(&self, number: u64) -> Option<Entry>
         ensures value { result ≡ entry_at (reverse self.now) number }
         ensures init { entry_init result ≡ is_some (init_of (reverse self.now) number) }
         ensures next { entry_next result ≡ is_some (next_of (reverse self.now) number) }

@@ -106,7 +106,6 @@ fn line_at(lines: &[Line], at: usize) -> &Line
 pub fn unfed(alloc: Global, lines: &Lines) -> Result<Option<u32>, AllocError>
     ensures { IfOk result (λ found. found ≡ option_map (λ l. l.at) (unfed (reverse lines.now))) }
 {
-    lines.are_ruled();
     let mut numbers = none(alloc);
     for at in 0..lines.len() {
         let line = line_at(lines.as_slice(), at);

@@ -9,10 +9,10 @@ loop-at-preserved c =
     let all = c.args.lines.now in
     let at = c.loop-at.at in
     let line = c.line_at-line.result.now in
-    let is : slice_get all at ≡ Some line = subst (λ z. slice_get z at ≡ Some line) c.as_slice.ensures c.line_at-line.ensures in
+    let is : slice_get all at ≡ Some line = subst (λ z. slice_get z at ≡ Some line) c.as_slice.ensures.value c.line_at-line.ensures in
     let within : at < length all = omega arith in
     let fed : lacking (holds c.loop-at.numbers) (is_some (init_of (reverse all) line.number)) (is_none (next_of (reverse all) line.number)) line.shape ≡ false = sym c.is_lacking.ensures ∙ c.if-is_lacking.false in
     record {
-      told = told-next all at line c.loop-at.numbers c.add_hungry.new.numbers c.is_hungry-hungry.result c.are_ruled.ensures is within c.loop-at.invariant.told c.is_hungry-hungry.ensures c.in_ok-add_hungry.ensures;
+      told = told-next all at line c.loop-at.numbers c.add_hungry.new.numbers c.is_hungry-hungry.result c.as_slice.ensures.ruled is within c.loop-at.invariant.told c.is_hungry-hungry.ensures c.in_ok-add_hungry.ensures;
       none = none-next all at line c.loop-at.numbers is c.loop-at.invariant.told c.loop-at.invariant.none fed;
     }
