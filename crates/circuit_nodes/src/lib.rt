@@ -9,11 +9,13 @@ mod eval;
 mod node;
 mod order;
 mod power;
+mod rank;
 mod tick;
 
 pub use eval::{arg_words, fill};
 pub use node::{Arg, Next, Node};
 pub use order::{reordered, reordered_nodes_keep_values};
+pub use rank::{fill_places, fill_ranks, rank_order};
 pub use power::{Fresh, Start, build_states};
 pub use tick::{advance, has_words};
 
