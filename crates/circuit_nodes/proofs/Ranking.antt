@@ -6,9 +6,9 @@ use Rattle.std.proofs.lemmas.List.Sorted.{All-permutation, Contains-permutation}
 use Rattle.std.specs.List.{All, Contains}
 use Rattle.std.specs.List.Sorted.{IsPermutation, IsSortedBy}
 use Rattle.std.specs.Ordering.{is_lt, nat_cmp, ordering_then}
-use Rattle.std.proofs.lemmas.Grind.{common_steps}
 use Rattle.circuit_nodes.specs.declared.node.Node.{Node}
-use Rattle.circuit_nodes.specs.Orders.{operands, no_place, node_or, greatest, rank_level, rank_at, IsRanked, keys_from, Comes, IsByRank, IsPlaced, Each, StandsBefore, IsInOrder}
+use Rattle.circuit_nodes.specs.declared.node.Node.TheVariants as node
+use Rattle.circuit_nodes.specs.Orders.{operands, no_place, node_or, greatest, rank_level, rank_at, IsRanked, keys_from, IsByRank, IsPlaced, Each, StandsBefore, IsInOrder}
 use Rattle.circuit_nodes.proofs.Places.{differs}
 
 same : (a b : ℕ) → a ≡ b → a == b ≡ true
@@ -156,22 +156,22 @@ by-rank ranks items moved sorted =
     record {
       within = λ j k is. let at = place-at items j k is in let key = all j (0, 0) at.0 in omega (arith, at.1, key.0);
       whole = λ k lt.
-      let found = Contains-permutation (keys_from 0 ranks) items (get_or ranks k 0, k) moved (keys-whole ranks k lt) in
-      (found.0, at-place items found.0 found.1 ∙ ap (λ (p : ℕ × ℕ). Some p.1) (get_or_default items found.0 (0, 0) (get_or ranks k 0, k) found.1 ∙ found.2));
+          let found = Contains-permutation (keys_from 0 ranks) items (get_or ranks k 0, k) moved (keys-whole ranks k lt) in
+          (found.0, at-place items found.0 found.1 ∙ ap (λ (p : ℕ × ℕ). Some p.1) (get_or_default items found.0 (0, 0) (get_or ranks k 0, k) found.1 ∙ found.2));
       ascends = λ i j a b le is_a is_b.
-      let at_a = place-at items i a is_a in
-      let at_b = place-at items j b is_b in
-      let key_a = all i (0, 0) at_a.0 in
-      let key_b = all j (0, 0) at_b.0 in
-      let sum : i + (j - i) ≡ j = omega arith in
-      let far : Lex (get_or items i (0, 0)) (get_or items j (0, 0)) =
-      subst (λ (n : ℕ). Lex (get_or items i (0, 0)) (get_or items n (0, 0))) sum (lex-far items sorted i (j - i) (omega (arith, at_b.0, sum))) in
-      let rank_a : (get_or items i (0, 0)).0 ≡ get_or ranks a 0 = key_a.1 ∙ ap (λ (n : ℕ). get_or ranks n 0) at_a.1 in
-      let rank_b : (get_or items j (0, 0)).0 ≡ get_or ranks b 0 = key_b.1 ∙ ap (λ (n : ℕ). get_or ranks n 0) at_b.1 in
-      elim far [
-        | inl l ↦ inl (omega (arith, l, rank_a, rank_b))
-        | inr r ↦ inr (sym rank_a ∙ (r.0 ∙ rank_b), omega (arith, r.1, at_a.1, at_b.1))
-      ];
+          let at_a = place-at items i a is_a in
+          let at_b = place-at items j b is_b in
+          let key_a = all i (0, 0) at_a.0 in
+          let key_b = all j (0, 0) at_b.0 in
+          let sum : i + (j - i) ≡ j = omega arith in
+          let far : Lex (get_or items i (0, 0)) (get_or items j (0, 0)) =
+          subst (λ (n : ℕ). Lex (get_or items i (0, 0)) (get_or items n (0, 0))) sum (lex-far items sorted i (j - i) (omega (arith, at_b.0, sum))) in
+          let rank_a : (get_or items i (0, 0)).0 ≡ get_or ranks a 0 = key_a.1 ∙ ap (λ (n : ℕ). get_or ranks n 0) at_a.1 in
+          let rank_b : (get_or items j (0, 0)).0 ≡ get_or ranks b 0 = key_b.1 ∙ ap (λ (n : ℕ). get_or ranks n 0) at_b.1 in
+          elim far [
+            | inl l ↦ inl (omega (arith, l, rank_a, rank_b))
+            | inr r ↦ inr (sym rank_a ∙ (r.0 ∙ rank_b), omega (arith, r.1, at_a.1, at_b.1))
+          ];
     }
 
 -- one more place is known
@@ -189,4 +189,57 @@ placed-more order places j k at within so_far i m lt is = elim (cases_eq m k) [
 ]
 
 pub ruleset place_steps = (placed-more)
+
 pub ruleset key_steps = (keys_from-append, by-rank, take_more, take_all)
+
+-- an order by rank puts each node behind its operands
+
+greatest-each : (at : ℕ → ℕ) (os : List ℕ) (n : ℕ) → greatest at os ≤ n → Each (λ (o : ℕ). at o ≤ n) os
+greatest-each at [] n h = tt
+greatest-each at (o ∷ os) n h =
+    let left : at o ≤ max (at o) (greatest at os) = omega arith in
+    let right : greatest at os ≤ max (at o) (greatest at os) = omega arith in
+    (omega (arith, left, h), greatest-each at os n (omega (arith, right, h)))
+
+operands-below : (numbers : List ℕ) (at : ℕ → ℕ) (n : Node) → Each (λ (o : ℕ). at o ≤ rank_level numbers at n) (operands n)
+operands-below numbers at (node.Const w) = tt
+operands-below numbers at (node.Input p) = tt
+operands-below numbers at (node.State p) = tt
+operands-below numbers at (node.Array p) = tt
+operands-below numbers at (node.Un o a) = greatest-each at (operands (node.Un o a)) _ (omega arith)
+operands-below numbers at (node.Bin o a b) = greatest-each at (operands (node.Bin o a b)) _ (omega arith)
+operands-below numbers at (node.Slice a h l) = greatest-each at (operands (node.Slice a h l)) _ (omega arith)
+operands-below numbers at (node.Uext a m) = greatest-each at (operands (node.Uext a m)) _ (omega arith)
+operands-below numbers at (node.Sext a m) = greatest-each at (operands (node.Sext a m)) _ (omega arith)
+operands-below numbers at (node.Ite c a b) = greatest-each at (operands (node.Ite c a b)) _ (omega arith)
+operands-below numbers at (node.Pick c a b) = greatest-each at (operands (node.Pick c a b)) _ (omega arith)
+operands-below numbers at (node.Read a i) = greatest-each at (operands (node.Read a i)) _ (omega arith)
+operands-below numbers at (node.Write a i w) = greatest-each at (operands (node.Write a i w)) _ (omega arith)
+
+each-one : (P Q : ℕ → Type 0) (os : List ℕ) → ((o : ℕ) → P o → Q o) → Each P os → Each Q os
+each-one P Q [] h r = tt
+each-one P Q (o ∷ os) h r = (h o r.0, each-one P Q os h r.1)
+
+operand-stands : (numbers : List ℕ) (ns : List Node) (ranks places order : List ℕ) (j k o : ℕ) → length ranks ≡ length ns → IsRanked numbers ns ranks (length ns) → IsByRank ranks order → IsPlaced places order → slice_get order j ≡ Some k → k < length ns → rank_at numbers ns k o ≤ rank_level numbers (rank_at numbers ns k) (node_or ns k) → StandsBefore places order k j o
+operand-stands numbers ns ranks places order j k o long ranked by placed is within below before =
+    let found = by.whole o (omega (arith, long)) in
+    let at : slice_get order (slice_index_or places o no_place) ≡ Some o = placed found.0 o found.1 in
+    let known : o < length ns = omega arith in
+    let rank_o : slice_index_or ranks o 0 ≡ rank_at numbers ns k o = ranked o known ∙ (rank_at-at numbers ns (length ns) o known ∙ sym (rank_at-at numbers ns k o before)) in
+    let rank_k : slice_index_or ranks k 0 ≡ rank_level numbers (rank_at numbers ns k) (node_or ns k) = ranked k within ∙ rank_at-at numbers ns (length ns) k within in
+    elim (cases_lt (slice_index_or places o no_place) j) [
+      | inl lt ↦ (lt, at)
+      | inr le ↦ elim (by.ascends j (slice_index_or places o no_place) k o le is at) [
+        | inl less ↦ absurd (omega (arith, less, rank_o, rank_k, below))
+        | inr late ↦ absurd (omega (arith, late.1, before))
+      ]
+    ]
+
+pub in-order : (numbers : List ℕ) (ns : List Node) (ranks places order : List ℕ) → length ranks ≡ length ns → IsRanked numbers ns ranks (length ns) → IsByRank ranks order → IsPlaced places order → IsInOrder ns places order
+in-order numbers ns ranks places order long ranked by placed j k is =
+    let within : k < length ns = omega (arith, by.within j k is, long) in (
+      within,
+      each-one (λ (o : ℕ). rank_at numbers ns k o ≤ rank_level numbers (rank_at numbers ns k) (node_or ns k)) (StandsBefore places order k j) (operands (node_or ns k))
+          (λ o below. operand-stands numbers ns ranks places order j k o long ranked by placed is within below)
+          (operands-below numbers (rank_at numbers ns k) (node_or ns k)),
+    )

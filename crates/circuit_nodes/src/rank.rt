@@ -1,6 +1,6 @@
 //! The order of nodes by the last state that each hangs on.
 ghost use Rattle.std.specs.Prelude.{◌≡◌, ◌≤◌, ◌<◌, ◌+◌, ℕ, length, slice_get, slice_index_or, Some, IfOk, max};
-ghost use Rattle.circuit_nodes.specs.Orders.{no_place, node_or, rank_at, keys_from, IsRanked, IsByRank, IsPlaced};
+ghost use Rattle.circuit_nodes.specs.Orders.{no_place, node_or, rank_at, keys_from, IsRanked, IsByRank, IsPlaced, IsInOrder};
 
 use crate::node::Node;
 use crate::order::node_or_zero;
@@ -28,14 +28,7 @@ fn rank_before(nodes: &[Node], numbers: &[u32], ranks: &[u32], upto: usize, node
 }
 
 /// The greater of the ranks of two operands.
-fn greater(
-    nodes: &[Node],
-    numbers: &[u32],
-    ranks: &[u32],
-    at: usize,
-    a: u32,
-    b: u32,
-) -> u32
+fn greater(nodes: &[Node], numbers: &[u32], ranks: &[u32], at: usize, a: u32, b: u32) -> u32
     requires { IsRanked numbers.now nodes.now ranks.now at }
     ensures { result ≡ max (rank_at numbers.now nodes.now at a) (rank_at numbers.now nodes.now at b) }
 {
@@ -122,4 +115,25 @@ pub fn fill_places(order: &[u32], places: &mut [u32])
     for j in 0..order.len() {
         places[order[j] as usize] = j as u32;
     }
+}
+
+/// An order of nodes by their ranks puts each behind its operands.
+pub fn rank_order_is_in_order(
+    nodes: &[Node],
+    numbers: &[u32],
+    ranks: &[u32],
+    places: &[u32],
+    order: &[u32],
+)
+    requires long { length ranks.now ≡ length nodes.now }
+    requires ranked { IsRanked numbers.now nodes.now ranks.now (length nodes.now) }
+    requires order { IsByRank ranks.now order.now }
+    requires placed { IsPlaced places.now order.now }
+    ensures { IsInOrder nodes.now places.now order.now }
+{
+    let _nodes = nodes;
+    let _numbers = numbers;
+    let _ranks = ranks;
+    let _places = places;
+    let _order = order;
 }

@@ -1,4 +1,4 @@
-use Rattle.std.proofs.Common.{◌≡◌, ◌<◌, ℕ, Some, length, slice_get, slice_index_or}
+use Rattle.std.proofs.Common.{◌≡◌, ◌<◌, ℕ, Some, slice_get, slice_index_or}
 use Rattle.circuit_nodes.specs.Orders.{no_place}
 use Rattle.circuit_nodes.proofs.rank.fill_places.Given as goal
 

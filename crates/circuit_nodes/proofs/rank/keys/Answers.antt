@@ -1,4 +1,4 @@
-use Rattle.std.proofs.Common.{◌≡◌, ◌<◌, [], ◌∷◌, length, slice_index_or, ◌∙◌, arith}
+use Rattle.std.proofs.Common.{[], ◌∷◌, slice_index_or, ◌∙◌}
 use Rattle.std.proofs.lemmas.Slice.{pushed}
 use Rattle.circuit_nodes.proofs.Ranking.{keys-more}
 use Rattle.circuit_nodes.proofs.rank.keys.Goals as goal

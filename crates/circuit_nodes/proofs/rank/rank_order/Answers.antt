@@ -1,7 +1,7 @@
-use Rattle.std.proofs.Common.{◌≡◌, ◌≤◌, ℕ, List, length, map, take, subst, sym, ap, ◌∙◌, arith}
+use Rattle.std.proofs.Common.{◌≡◌, ◌≤◌, ℕ, List, length, map, subst, sym, ap, ◌∙◌, arith}
 use Rattle.std.proofs.lemmas.List.{take_all}
 use Rattle.std.specs.List.Sorted.{IsPermutation}
-use Rattle.circuit_nodes.specs.Orders.{IsByRank, keys_from}
+use Rattle.circuit_nodes.specs.Orders.{IsByRank}
 use Rattle.circuit_nodes.proofs.Ranking.{by-rank, place_in}
 use Rattle.circuit_nodes.proofs.rank.rank_order.Goals as goal
 
