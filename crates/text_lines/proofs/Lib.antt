@@ -1,0 +1,4 @@
+pub mod Courses
+pub mod Means
+pub mod Answers
+pub mod Steps
