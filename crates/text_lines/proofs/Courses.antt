@@ -18,7 +18,7 @@ use Rattle.text_lines.specs.Reading.{grown, with_said, with_row, unless_unfed, e
 
 -- ---- what is meant is read
 
-turned : (r : Row) (rs rest : List Row) → reverse (r ∷ rs) ++ rest ≡ reverse rs ++ (r ∷ rest)
+pub turned : (r : Row) (rs rest : List Row) → reverse (r ∷ rs) ++ rest ≡ reverse rs ++ (r ∷ rest)
 turned r rs rest = ap (λ (front : List Row). front ++ rest) (reverse_onto rs r []) ∙ append_assoc (reverse rs) (r ∷ []) rest
 
 -- text lines that say lines that obey the rules are read as these, both from the last to the first
@@ -49,18 +49,18 @@ broken-row : (ls : List Line) (r : Row) (w : Why) → BreaksFirst ls r w → wit
 broken-row ls r w (InTokens e) = ap (with_said (reverse ls)) e
 broken-row ls r w (InLine l e b) = ap (with_said (reverse ls)) e ∙ ap (grown (reverse ls) l) b
 
-fault-of : (f : BtorFault) (line : ℕ) (w : Why) → f.line ≡ line → f.why ≡ w → Err (record { line = line; why = w }) ≡ Err f
-fault-of f line w e d = cc
+fault-of : (f : BtorFault) (line : ℕ) (w : Why) → f.line ≡ line → f.why ≡ w → record { line = line; why = w } ≡ f
+fault-of f line w e d = λ i. record { line = sym e i; why = sym d i }
 
 row-fault-read : (text : List ℕ) (f : BtorFault) → FaultsInRow text f → lines_or_fault text ≡ Err f
 row-fault-read text f h =
     let read = ap (λ (o : Result (List Line) Why). continued h.row.at o (λ (after : List Line). read_behind after h.after)) (broken-row h.said_before h.row f.why h.broken_first) in
     ap (read_behind []) h.stands
-    ∙ (read-ruled h.before h.said_before h.obeying (h.row ∷ h.after) ∙ (read ∙ fault-of f h.row.at f.why h.place refl))
+    ∙ (read-ruled h.before h.said_before h.obeying (h.row ∷ h.after) ∙ (read ∙ ap (λ (g : BtorFault). Err g) (fault-of f h.row.at f.why h.place refl)))
 
 whole-fault-read : (text : List ℕ) (f : BtorFault) → FaultsAsWhole text f → lines_or_fault text ≡ Err f
 whole-fault-read text f h =
-    read-all (rows text) h.all h.obeying ∙ (ap (unless_unfed (reverse h.all)) h.starved ∙ fault-of f h.line.at why.Next h.place h.why)
+    read-all (rows text) h.all h.obeying ∙ (ap (unless_unfed (reverse h.all)) h.starved ∙ ap (λ (g : BtorFault). Err g) (fault-of f h.line.at why.Next h.place h.why))
 
 pub fault-read : (text : List ℕ) (f : BtorFault) → FaultsAt text f → lines_or_fault text ≡ Err f
 fault-read text f (inl h) = row-fault-read text f h

@@ -8,5 +8,5 @@ mod laws;
 mod reading;
 
 pub use examples::{faults_as_expected, lines_as_expected, rows_as_expected};
-pub use laws::{texts_are_read, texts_mean_one_thing};
+pub use laws::{rules_keep_their_order, texts_are_read, texts_mean_one_thing};
 pub use reading::read_lines;
