@@ -27,14 +27,14 @@ counted : (n : ℕ) (ls : List (List ℕ)) (before : List Row) (row : Row) (afte
 counted n [] before row after e = absurd (none-there before after row e)
 counted n (line ∷ others) before row after e =
     by_tokens (tokens_of line) before e (λ before e. counted (n + 1) others before row after e) where
-  by_tokens : (ts : Tokens) (before : List Row) → unless_skipped n ts (rows_from (n + 1) others) ≡ before ++ row ∷ after → ((before : List Row) → rows_from (n + 1) others ≡ before ++ row ∷ after → length before + (n + 1) ≤ row.at) → length before + n ≤ row.at
-  by_tokens [] before e more = let far = more before e in omega (arith, far)
-  by_tokens (t ∷ ts) [] e more =
-      let same = ap (λ (r : Row). r.at) (cons-head (record { at = n; tokens = t ∷ ts }) row (rows_from (n + 1) others) after e).0 in
-      let at : n ≡ row.at = same in omega (arith, at)
-  by_tokens (t ∷ ts) (b ∷ before) e more =
-      let far = more before (cons-head (record { at = n; tokens = t ∷ ts }) b (rows_from (n + 1) others) (before ++ row ∷ after) e).1 in
-      omega (arith, far)
+      by_tokens : (ts : Tokens) (before : List Row) → unless_skipped n ts (rows_from (n + 1) others) ≡ before ++ row ∷ after → ((before : List Row) → rows_from (n + 1) others ≡ before ++ row ∷ after → length before + (n + 1) ≤ row.at) → length before + n ≤ row.at
+      by_tokens [] before e more = let far = more before e in omega (arith, far)
+      by_tokens (t ∷ ts) [] e more =
+          let same = ap (λ (r : Row). r.at) (cons-head (record { at = n; tokens = t ∷ ts }) row (rows_from (n + 1) others) after e).0 in
+          let at : n ≡ row.at = same in omega (arith, at)
+      by_tokens (t ∷ ts) (b ∷ before) e more =
+          let far = more before (cons-head (record { at = n; tokens = t ∷ ts }) b (rows_from (n + 1) others) (before ++ row ∷ after) e).1 in
+          omega (arith, far)
 
 each-one : (rs : List Row) (ls : List Line) → SayEach rs ls → length ls ≡ length rs
 each-one [] [] s = refl
