@@ -1,5 +1,5 @@
 -- A text line stands past as many others as lines are said before it.
-use Rattle.std.proofs.Common.{◌≡◌, ◌≢◌, inl, inr, ℕ, suc, ◌+◌, ◌≤◌, ◌<◌, ◌==◌, ◌||◌, nat_lt, nat_le, Bool, true, false, List, [], ◌∷◌, ◌++◌, length, reverse, Option, Some, None, Result, Ok, Err, refl, sym, ◌∙◌, ap, subst, arith, eqb-true}
+use Rattle.std.proofs.Common.{◌≡◌, inl, inr, ℕ, suc, ◌+◌, ◌≤◌, ◌<◌, ◌==◌, ◌||◌, nat_le, Bool, true, false, List, [], ◌∷◌, ◌++◌, length, reverse, Option, Some, None, Ok, Err, refl, sym, ◌∙◌, ap, arith, eqb-true}
 use Rattle.std.proofs.lemmas.Bool.{lt-leb, le-ltb, ltb-true}
 use Rattle.std.proofs.lemmas.List.{length-reverse}
 use Rattle.circuit_lines.specs.declared.fault.Why.{Why}
@@ -13,7 +13,7 @@ use Rattle.line_read.specs.Tokens.{Tokens, tokens_of}
 use Rattle.line_read.specs.Faults.{said, breaks}
 use Rattle.line_read.proofs.Meant.{one-thing, stands}
 use Rattle.text_lines.specs.Rows.{Row, unless_skipped, rows_from, rows}
-use Rattle.text_lines.specs.Meaning.{SayEach, SayRuled, BreaksFirst, InTokens, InLine, FaultsInRow, FaultsAsWhole, FaultsAt}
+use Rattle.text_lines.specs.Meaning.{SayEach, SayRuled, BreaksFirst, InTokens, InLine, FaultsAt}
 
 cons-head : (r q : Row) (rs qs : List Row) → r ∷ rs ≡ q ∷ qs → (r ≡ q) × (rs ≡ qs)
 cons-head r q rs qs e = (cc, cc)
@@ -72,21 +72,33 @@ rules-in-order text before after row ls l e h meant =
 
 -- ---- the rule on how many text lines there are
 
-skips : (b : Bool) (w : Why) (others : Option Why) → where_so b w others ≡ Some why.TooManyLines → w ≢ why.TooManyLines → others ≡ Some why.TooManyLines
-skips true w others e no = absurd (no cc)
-skips false w others e no = e
+abbrev is_too_many : Why → Bool
+is_too_many why.TooManyLines = true
+is_too_many _ = false
+
+clash : false ≡ true → ⊥
+clash e = cc
+
+none-some : (w : Why) → None ≡ Some w → ⊥
+none-some w e = cc
+
+same-some : (v w : Why) → Some v ≡ Some w → v ≡ w
+same-some v w e = cc
+
+skips : (b : Bool) (w : Why) (others : Option Why) → is_too_many w ≡ false → where_so b w others ≡ Some why.TooManyLines → others ≡ Some why.TooManyLines
+skips true w others differ e = absurd (clash (sym differ ∙ ap is_too_many (same-some w why.TooManyLines e)))
+skips false w others differ e = e
 
 never-too-many : (before : List Line) (s : Shape) → shape_broken before s ≡ Some why.TooManyLines → ⊥
 never-too-many before s e =
-    let a = skips _ why.Operand _ e (λ q. cc) in
-    let b = skips _ why.Sort _ a (λ q. cc) in
-    let c = skips _ why.Digits _ b (λ q. cc) in
-    let d = skips _ why.Unsupported _ c (λ q. cc) in
-    let f = skips _ why.Width _ d (λ q. cc) in
-    let g = skips _ why.Init _ f (λ q. cc) in
-    let h = skips _ why.Next _ g (λ q. cc) in
-    let i = skips _ why.TooManyWords _ h (λ q. cc) in
-    cc
+    let sort = skips _ why.Operand _ refl e in
+    let digits = skips _ why.Sort _ refl sort in
+    let supported = skips _ why.Digits _ refl digits in
+    let width = skips _ why.Unsupported _ refl supported in
+    let init = skips _ why.Width _ refl width in
+    let next = skips _ why.Init _ refl init in
+    let words = skips _ why.Next _ refl next in
+    none-some why.TooManyLines (skips _ why.TooManyWords _ refl words)
 
 pub too-many : (text : List ℕ) (f : BtorFault) → FaultsAt text f → f.why ≡ why.TooManyLines → 1000000 < f.line
 too-many text f (inr h) q = let next : f.why ≡ why.Next = h.why in cc

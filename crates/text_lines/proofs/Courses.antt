@@ -1,18 +1,13 @@
 -- What a text is read as is what it means, or its first fault.
-use Rattle.std.proofs.Common.{◌≡◌, ◌≢◌, ◌⊎◌, inl, inr, ◌↔◌, ℕ, ◌+◌, List, [], ◌∷◌, ◌++◌, reverse, Option, Some, None, Result, Ok, Err, refl, sym, ◌∙◌, ap, subst, append_assoc}
-use Rattle.std.proofs.lemmas.List.{reverse-append, reverse-reverse, append-nil}
+use Rattle.std.proofs.Common.{◌≡◌, inl, inr, ℕ, List, [], ◌∷◌, ◌++◌, reverse, Result, Ok, Err, refl, sym, ◌∙◌, ap, append_assoc}
+use Rattle.std.proofs.lemmas.List.{reverse-reverse, append-nil}
 use Rattle.std.proofs.lemmas.Grind.{reverse_onto}
 use Rattle.circuit_lines.specs.declared.fault.Why.{Why}
 use Rattle.circuit_lines.specs.declared.fault.Why.TheVariants as why
 use Rattle.circuit_lines.specs.declared.fault.BtorFault.{BtorFault}
 use Rattle.circuit_lines.specs.declared.line.Line.{Line}
-use Rattle.circuit_rules.specs.Rules.{broken, last_number, AreRuled}
-use Rattle.circuit_rules.specs.Whole.{unfed}
-use Rattle.line_read.specs.Tokens.{Tokens, tokens_of}
-use Rattle.line_read.specs.Faults.{said}
-use Rattle.line_read.specs.Meaning.{Says}
-use Rattle.line_read.proofs.Meant.{one-thing}
-use Rattle.text_lines.specs.Rows.{Row, unless_skipped, rows_from, rows}
+use Rattle.circuit_rules.specs.Rules.{AreRuled}
+use Rattle.text_lines.specs.Rows.{Row, rows}
 use Rattle.text_lines.specs.Meaning.{SayEach, SayRuled, MeansLines, BreaksFirst, InTokens, InLine, FaultsInRow, FaultsAsWhole, FaultsAt}
 use Rattle.text_lines.specs.Reading.{grown, with_said, with_row, unless_unfed, ended, continued, read_behind, lines_or_fault}
 

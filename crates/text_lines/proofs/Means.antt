@@ -12,7 +12,7 @@ use Rattle.line_read.specs.Faults.{said}
 use Rattle.line_read.proofs.Meant.{one-thing}
 use Rattle.knox_text.specs.Lines.{lines}
 use Rattle.text_lines.specs.Rows.{Row, unless_skipped, rows_from, rows}
-use Rattle.text_lines.specs.Meaning.{SayEach, SayRuled, MeansLines, BreaksFirst, InTokens, InLine, FaultsInRow, FaultsAsWhole, FaultsAt}
+use Rattle.text_lines.specs.Meaning.{SayEach, SayRuled, MeansLines, BreaksFirst, InTokens, InLine, FaultsAt}
 use Rattle.text_lines.specs.Reading.{grown, with_said, unless_unfed, continued, read_behind, lines_or_fault}
 use Rattle.text_lines.proofs.Courses.{turned, meant-read, fault-read}
 

@@ -11,8 +11,8 @@ use Rattle.circuit_rules.specs.Rules.{broken, last_number}
 use Rattle.circuit_rules.specs.Whole.{unfed}
 use Rattle.line_read.specs.Tokens.{Tokens, tokens_of}
 use Rattle.line_read.specs.Faults.{said}
-use Rattle.text_lines.specs.Rows.{Row, unless_skipped, rows_from, rows}
-use Rattle.text_lines.specs.Reading.{grown, with_said, with_row, unless_unfed, ended, continued, read_behind, lines_or_fault}
+use Rattle.text_lines.specs.Rows.{Row, unless_skipped, rows_from}
+use Rattle.text_lines.specs.Reading.{grown, with_said, with_row, unless_unfed, ended, continued, read_behind}
 
 -- ---- one text line
 

@@ -1,7 +1,7 @@
 -- The lines that a text means, and the first fault of one that means none, as relations to its text lines.
 -- Standard: BTOR2 (Niemetz, Preiner, Wolf and Biere, CAV 2018).
 -- The project's own: the rules, their order, and that the rule of a whole circuit comes after all lines.
-use Rattle.std.specs.Prelude.{◌≡◌, ◌⊎◌, ℕ, List, [], ◌∷◌, ◌++◌, reverse, Option, Some, None, Ok, Err}
+use Rattle.std.specs.Prelude.{◌≡◌, ◌⊎◌, ℕ, List, [], ◌∷◌, ◌++◌, reverse, Some, None, Ok, Err}
 use Rattle.circuit_lines.specs.declared.fault.Why.{Why}
 use Rattle.circuit_lines.specs.declared.fault.Why.TheVariants.{Next}
 use Rattle.circuit_lines.specs.declared.fault.BtorFault.{BtorFault}

@@ -34,8 +34,8 @@ fn add_row(alloc: Global, lines: &mut Lines, text: &[u8], at: u32, last: u32) ->
 /// The lines, unless one of them breaks the rule of a whole circuit.
 #[tactic(auto, using(crate::proofs::Steps::end_steps))]
 fn whole(lines: Lines) -> Result<Lines, BtorFault>
-    ensures ok { IfOk result (λ ls. ended (reverse lines.now) ≡ Ok ls) }
-    ensures err { IfErr result (λ fault. fault.why ≢ Why.Memory → ended (reverse lines.now) ≡ Err fault) }
+    ensures ok { IfOk result (λ ls. ended (reverse lines) ≡ Ok ls) }
+    ensures err { IfErr result (λ fault. fault.why ≢ Why.Memory → ended (reverse lines) ≡ Err fault) }
 {
     match lines.unfed()? {
         None => Ok(lines),
@@ -69,7 +69,6 @@ fn read(alloc: Global, text: &[u8]) -> Result<Lines, BtorFault>
 }
 
 /// The lines that a text means, or its first fault. A text has at most 64 MiB.
-#[tactic(auto, using(crate::proofs::Answers::answer_steps))]
 pub fn read_lines(alloc: Global, text: &[u8]) -> Result<Lines, BtorFault>
     requires { length text.now ≤ 67108864 }
     ensures ok { IfOk result (λ ls. MeansLines text.now ls) }
