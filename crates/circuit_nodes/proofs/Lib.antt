@@ -5,3 +5,4 @@ pub mod Ticking
 pub mod Building
 pub mod Reading
 pub mod Moving
+pub mod Ranking

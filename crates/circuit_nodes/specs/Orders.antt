@@ -1,6 +1,6 @@
 -- Nodes in another order, with their operands by their new places.
 -- The project's own.
-use Rattle.std.specs.Prelude.{◌≡◌, ℕ, ◌<◌, nat_lt, List, [], ◌∷◌, length, slice_get, slice_index_or, map, Some, if◌then◌else◌}
+use Rattle.std.specs.Prelude.{◌≡◌, ℕ, zero, suc, ◌+◌, ◌<◌, ◌≤◌, ◌==◌, ◌⊎◌, nat_lt, max, List, [], ◌∷◌, length, slice_get, slice_index_or, map, Some, if◌then◌else◌}
 use Rattle.circuit_nodes.specs.Values.{zero_word}
 use Rattle.circuit_nodes.specs.declared.node.Arg.{Arg}
 use Rattle.circuit_nodes.specs.declared.node.Node.{Node}
@@ -68,3 +68,42 @@ StandsBefore places order k j o = o < k → (slice_index_or places o no_place < 
 abbrev pub IsInOrder : List Node → List ℕ → List ℕ → Type 0
 IsInOrder ns places order =
     (j k : ℕ) → slice_get order j ≡ Some k → (k < length ns) × Each (StandsBefore places order k j) (operands (node_or ns k))
+
+-- the greatest that some places have
+abbrev pub greatest : (ℕ → ℕ) → List ℕ → ℕ
+greatest at [] = 0
+greatest at (o ∷ os) = max (at o) (greatest at os)
+
+-- the rank of a node, over the ranks of the nodes before it: the number of the last state that it hangs on; `numbers` has that of the state at each place
+abbrev pub rank_level : List ℕ → (ℕ → ℕ) → Node → ℕ
+rank_level numbers at (node.State p) = slice_index_or numbers p 0
+rank_level numbers at (node.Array p) = slice_index_or numbers p 0
+rank_level numbers at n = greatest at (operands n)
+
+-- the rank of the node at place k, over the first i nodes
+abbrev pub rank_at : List ℕ → List Node → ℕ → ℕ → ℕ
+rank_at numbers ns zero k = 0
+rank_at numbers ns (suc i) k = if k == i then rank_level numbers (rank_at numbers ns i) (node_or ns i) else rank_at numbers ns i k
+
+-- the first i places hold the ranks of their nodes
+abbrev pub IsRanked : List ℕ → List Node → List ℕ → ℕ → Type 0
+IsRanked numbers ns ranks i = (k : ℕ) → k < i → slice_index_or ranks k 0 ≡ rank_at numbers ns i k
+
+-- the ranks with their places
+abbrev pub keys_from : ℕ → List ℕ → List (ℕ × ℕ)
+keys_from i [] = []
+keys_from i (r ∷ ranks) = (r, i) ∷ keys_from (i + 1) ranks
+
+-- place a comes before place b, or is b: its rank is less, or they have one rank and it is no later
+abbrev pub Comes : List ℕ → ℕ → ℕ → Type 0
+Comes ranks a b = (slice_index_or ranks a 0 < slice_index_or ranks b 0) ⊎ ((slice_index_or ranks a 0 ≡ slice_index_or ranks b 0) × (a ≤ b))
+
+-- an order of all places by their ranks
+pub record IsByRank (ranks order : List ℕ) : Type 0 where
+  pub within : (j k : ℕ) → slice_get order j ≡ Some k → k < length ranks
+  pub whole : (k : ℕ) → k < length ranks → (j : ℕ) × (slice_get order j ≡ Some k)
+  pub ascends : (i j a b : ℕ) → i ≤ j → slice_get order i ≡ Some a → slice_get order j ≡ Some b → Comes ranks a b
+
+-- each place of an order is found again where `places` says
+abbrev pub IsPlaced : List ℕ → List ℕ → Type 0
+IsPlaced places order = (j k : ℕ) → slice_get order j ≡ Some k → slice_get order (slice_index_or places k no_place) ≡ Some k

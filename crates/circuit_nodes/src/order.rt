@@ -72,7 +72,8 @@ fn moved(places: &[u32], at: u32, node: Node) -> Node
     }
 }
 
-fn node_or_zero(nodes: &[Node], at: usize) -> Node
+/// The node at a place, and a constant past the end.
+pub(crate) fn node_or_zero(nodes: &[Node], at: usize) -> Node
     ensures { result ≡ node_or nodes.now at }
 {
     if at < nodes.len() {

@@ -6,3 +6,4 @@ pub mod Summed
 pub mod Adding
 pub mod Earlier
 pub mod Feeding
+pub mod Shaped

@@ -89,3 +89,8 @@ width_of _ = 0
 abbrev pub element_of : Option SortOf → Option SortOf
 element_of (Some (Arrays i e)) = Some (Words e)
 element_of _ = None
+
+-- the width of words, or of the words of arrays
+abbrev pub element_width : SortOf → ℕ
+element_width (Words w) = w
+element_width (Arrays i e) = e

@@ -6,6 +6,7 @@
 mod constants;
 mod entry;
 mod examples;
+mod laws;
 mod lines;
 mod operators;
 mod rules;
@@ -18,5 +19,6 @@ pub use examples::{
     digits_as_expected, names_as_expected, numbers_as_expected, operands_as_expected,
     sorts_as_expected, states_as_expected, wholes_as_expected, widths_as_expected,
 };
+pub use laws::{nodes_have_widths, sorts_have_widths};
 pub use lines::Lines;
 pub use sort::SortOf;

@@ -94,13 +94,24 @@ fn target(state: i64) -> Option<u64>
 }
 
 /// Lines in the order of the text, each of which breaks no rule after those before it.
-#[derive(Drop)]
 pub struct Lines {
     alloc: Global,
     lines: Items<Line>,
     entries: BTreeMap<u64, Entry>,
     last: u32,
     words: u32,
+}
+
+impl Drop for Lines {
+    fn drop(self) {
+        let Lines {
+            alloc: _alloc,
+            lines: _lines,
+            entries: _entries,
+            last: _last,
+            words: _words,
+        } = self;
+    }
 }
 
 impl Model for Lines {
@@ -140,9 +151,10 @@ impl Lines {
         self.lines.as_slice()
     }
 
-    /// The lines as a list of their own.
+    /// The lines themselves, in the order of the text.
     pub fn into_items(self) -> Items<Line>
-        ensures { result ≡ self }
+        ensures value { result ≡ self }
+        ensures ruled { AreRuled (reverse self) }
     {
         let Lines {
             alloc: _alloc,

@@ -320,7 +320,7 @@ fn breaks_width(lines: &Lines, shape: &Shape) -> bool
     }
 }
 
-/// Whether a value hangs on an input, on a state or on a later one.
+/// Whether a value hangs on an input, on the state itself or on a later one.
 #[tactic(auto, using(crate::proofs::Reaching::barred_steps))]
 fn is_barred(lines: &Lines, state: i64, value: i64) -> bool
     ensures { result ≡ list_any (is_barred (number_of state)) (reached (reverse lines.now) value) }

@@ -12,7 +12,7 @@ use std::alloc::{AllocError, Global};
 use std::test::Fail;
 
 /// The store that is busy for a tick.
-const SLOW: Texts<'static> = Texts {
+pub(crate) const SLOW: Texts<'static> = Texts {
     c: SLOW_CIRCUIT,
     d: SLOW_DRIVER,
     e: SLOW_EMULATOR,

@@ -1,6 +1,8 @@
 //! The program `knox`: verifies a hardware security module against its specification.
 #![tactic(auto)]
 
+#[cfg(test)]
+mod branch_tests;
 mod check_saying;
 #[cfg(test)]
 mod check_tests;

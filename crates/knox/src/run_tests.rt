@@ -1,10 +1,10 @@
 //! Runs of the PIN store's segments by the program, each beside the end that the definitions give: the same rows are computed in `pin_store`.
-use crate::devices::SMALL;
+use crate::devices::{SMALL, Texts};
 use crate::form_tests::{LAST, edited};
+use crate::store_tests::words_of;
 use emu_machine::Device;
 use knox_text::Place;
 use knox_verify::device_of;
-use knox_words::{Words, word_or};
 use script_core::{Choices, HintNo, Script, ScriptEnd, SegmentNo, run_choices};
 use script_read::read_script;
 use std::alloc::Global;
@@ -147,25 +147,26 @@ const CUT: [Row; 17] = [
     ),
 ];
 
-/// The store, whose circuit has this last line.
-fn store(alloc: Global, last: &[u8]) -> Result<Device, Fail> {
-    let circuit = edited(alloc, SMALL.c, LAST, last)?;
-    if circuit.len() > 1000 {
-        return Err(Fail::new("the circuit is short"));
+/// The device of texts.
+pub(crate) fn device(alloc: Global, texts: Texts) -> Result<Device, Fail> {
+    if texts.c.len() > 1000 || texts.s.len() > 1000 {
+        return Err(Fail::new("the texts are short"));
     }
-    match device_of(alloc, circuit.as_slice(), SMALL.s, SMALL.d, SMALL.e) {
+    if texts.d.len() > 1000 || texts.e.len() > 1000 {
+        return Err(Fail::new("the texts are short"));
+    }
+    match device_of(alloc, texts.c, texts.s, texts.d, texts.e) {
         Ok(dev) => Ok(dev),
         Err(_) => Err(Fail::new("the texts are of the form")),
     }
 }
 
-/// The script with this condition at its cut.
-fn script(alloc: Global, dev: &Device, cut: &[u8]) -> Result<Script, Fail> {
-    let text = edited(alloc, SMALL.h, MIMICS, cut)?;
-    if text.len() > 1000 {
+/// The script of hints for a device.
+pub(crate) fn script(alloc: Global, dev: &Device, hints: &[u8]) -> Result<Script, Fail> {
+    if hints.len() > 1000 {
         return Err(Fail::new("the hints are short"));
     }
-    let trees = match knox_sexpr::read(alloc, text.as_slice()) {
+    let trees = match knox_sexpr::read(alloc, hints) {
         Ok(trees) => trees,
         Err(_) => return Err(Fail::new("the hints are trees")),
     };
@@ -178,16 +179,19 @@ fn script(alloc: Global, dev: &Device, cut: &[u8]) -> Result<Script, Fail> {
 /// The end of the run of a row, in the segment of `wire` or in that of the cut.
 fn end_of(alloc: Global, row: &Row, segment: SegmentNo) -> Result<ScriptEnd, Fail> {
     let (last, cut, pairs, _) = row;
-    let dev = store(alloc, last)?;
-    let script = script(alloc, &dev, cut)?;
+    let circuit = edited(alloc, SMALL.c, LAST, last)?;
+    let texts = Texts {
+        c: circuit.as_slice(),
+        ..SMALL
+    };
+    let dev = device(alloc, texts)?;
+    let hints = edited(alloc, SMALL.h, MIMICS, cut)?;
+    let script = script(alloc, &dev, hints.as_slice())?;
     let sections = script.parts().sections.len();
     if sections < 5 || sections - 5 != dev.spec.ops().len() {
         return Err(Fail::new("the script is of the device"));
     }
-    let mut words = Words::new(alloc);
-    for pair in *pairs {
-        words.push(word_or(pair.0, pair.1))?;
-    }
+    let words = words_of(alloc, pairs)?;
     Ok(run_choices(alloc, &dev, &script, segment, &Choices { words })?)
 }
 

@@ -10,7 +10,7 @@ use std::alloc::{AllocError, Global};
 use std::test::Fail;
 
 /// Words of these widths and values.
-fn words_of(alloc: Global, pairs: &[(u8, u128)]) -> Result<Words, AllocError> {
+pub(crate) fn words_of(alloc: Global, pairs: &[(u8, u128)]) -> Result<Words, AllocError> {
     let mut words = Words::new(alloc);
     for pair in pairs {
         words.push(word_or(pair.0, pair.1))?;

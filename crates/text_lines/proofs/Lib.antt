@@ -1,0 +1,5 @@
+pub mod Courses
+pub mod Means
+pub mod Answers
+pub mod Steps
+pub mod Counted

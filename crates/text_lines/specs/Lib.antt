@@ -1,0 +1,4 @@
+pub mod Rows
+pub mod Meaning
+pub mod Reading
+pub mod Examples
