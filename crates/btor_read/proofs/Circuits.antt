@@ -3,12 +3,13 @@ use Rattle.std.proofs.Common.{◌≡◌, ℕ, ◌+◌, ◌&&◌, Bool, true, fal
 use Rattle.std.proofs.Math.Bool.{and-false}
 use Rattle.std.proofs.lemmas.List.{reverse-append, append-nil}
 use Rattle.knox_text.specs.Lines.{lines}
-use Rattle.knox_text.specs.Tokens.{bare_tokens}
 use Rattle.circuit_lines.specs.declared.line.Line.{Line}
+use Rattle.line_read.specs.Tokens.{◌>>=◌, tokens_of}
+use Rattle.line_read.specs.Faults.{said}
 use Rattle.knox_circuit.specs.Circuit.{Circuit}
 use Rattle.knox_circuit.specs.Form.{is_line}
 use Rattle.knox_circuit.specs.Whole.{is_complete}
-use Rattle.btor_read.specs.Grammar.{◌>>=◌, uncommented, row, rows, lines_of, formed, circuit_among, circuit_of}
+use Rattle.btor_read.specs.Grammar.{row, number_behind, rows, lines_of, formed, circuit_among, circuit_of}
 use Rattle.btor_read.specs.Growing.{grown, with_rest}
 
 -- lines of the form are of it without those behind them
@@ -53,20 +54,21 @@ grown-none before (Some ls) (Some others) e =
     ap circuit_among (sym (append_assoc before ls others)) ∙ unformed-none ((before ++ ls) ++ others) (unformed-more (before ++ ls) others bad)
 
 -- a text line is read
-pub row-read : (before after : List Line) (rest piece more : List ℕ) (at : ℕ) (circuit : Option Circuit) → lines rest ≡ piece ∷ lines more → grown before (row at (uncommented (bare_tokens piece))) ≡ Some after → with_rest before (rows at (lines rest)) ≡ circuit → with_rest after (rows (at + 1) (lines more)) ≡ circuit
-row-read before after rest piece more at circuit e g so_far =
-    grown-rest before after (row at (uncommented (bare_tokens piece))) (rows (at + 1) (lines more)) g
-    ∙ (sym (ap (λ (ls : List (List ℕ)). with_rest before (rows at ls)) e) ∙ so_far)
+pub row-read : (before after : List Line) (rest piece more : List ℕ) (at last n : ℕ) (circuit : Option Circuit) → lines rest ≡ piece ∷ lines more → grown before (row (said at last (tokens_of piece))) ≡ Some after → number_behind last (said at last (tokens_of piece)) ≡ n → with_rest before (rows at last (lines rest)) ≡ circuit → with_rest after (rows (at + 1) n (lines more)) ≡ circuit
+row-read before after rest piece more at last n circuit e g is so_far =
+    ap (λ (k : ℕ). with_rest after (rows (at + 1) k (lines more))) (sym is)
+    ∙ (grown-rest before after (row (said at last (tokens_of piece))) (rows (at + 1) (number_behind last (said at last (tokens_of piece))) (lines more)) g
+    ∙ (sym (ap (λ (ls : List (List ℕ)). with_rest before (rows at last ls)) e) ∙ so_far))
 
 -- a text line is refused
-pub row-refused : (before : List Line) (rest piece more : List ℕ) (at : ℕ) (circuit : Option Circuit) → lines rest ≡ piece ∷ lines more → grown before (row at (uncommented (bare_tokens piece))) ≡ None → with_rest before (rows at (lines rest)) ≡ circuit → circuit ≡ None
-row-refused before rest piece more at circuit e g so_far =
-    sym so_far ∙ (ap (λ (ls : List (List ℕ)). with_rest before (rows at ls)) e ∙ grown-none before (row at (uncommented (bare_tokens piece))) (rows (at + 1) (lines more)) g)
+pub row-refused : (before : List Line) (rest piece more : List ℕ) (at last : ℕ) (circuit : Option Circuit) → lines rest ≡ piece ∷ lines more → grown before (row (said at last (tokens_of piece))) ≡ None → with_rest before (rows at last (lines rest)) ≡ circuit → circuit ≡ None
+row-refused before rest piece more at last circuit e g so_far =
+    sym so_far ∙ (ap (λ (ls : List (List ℕ)). with_rest before (rows at last ls)) e ∙ grown-none before (row (said at last (tokens_of piece))) (rows (at + 1) (number_behind last (said at last (tokens_of piece))) (lines more)) g)
 
 -- the end of the text
 
-pub end-read : (before : List Line) (rest : List ℕ) (at : ℕ) (circuit : Option Circuit) → rest ≡ [] → with_rest before (rows at (lines rest)) ≡ circuit → circuit_among before ≡ circuit
-end-read before rest at circuit e so_far = sym (ap (λ (bytes : List ℕ). with_rest before (rows at (lines bytes))) e ∙ ap circuit_among (append-nil before)) ∙ so_far
+pub end-read : (before : List Line) (rest : List ℕ) (at last : ℕ) (circuit : Option Circuit) → rest ≡ [] → with_rest before (rows at last (lines rest)) ≡ circuit → circuit_among before ≡ circuit
+end-read before rest at last circuit e so_far = sym (ap (λ (bytes : List ℕ). with_rest before (rows at last (lines bytes))) e ∙ ap circuit_among (append-nil before)) ∙ so_far
 
 pub whole-read : (before : List Line) (c : Circuit) (circuit : Option Circuit) → circuit_among before ≡ circuit → formed (reverse before) ≡ true → is_complete (reverse before) ≡ true → c.lines ≡ before → circuit ≡ Some c
 whole-read before c circuit e f g is =
@@ -76,7 +78,7 @@ pub whole-refused : (before : List Line) (circuit : Option Circuit) → circuit_
 whole-refused before circuit e g =
     sym e ∙ (ap (λ (b : Bool). if formed (reverse before) && b then Some (record { lines = before }) else None) g ∙ ap (λ (b : Bool). if b then Some (record { lines = before }) else None) (and-false (formed (reverse before))))
 
-pub start-read : (text : List ℕ) → with_rest [] (rows 1 (lines text)) ≡ circuit_of text
+pub start-read : (text : List ℕ) → with_rest [] (rows 1 0 (lines text)) ≡ circuit_of text
 start-read text = by_lines (lines_of text) where
   by_lines : (o : Option (List Line)) → with_rest [] o ≡ (o >>= circuit_among)
   by_lines None = refl

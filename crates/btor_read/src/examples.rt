@@ -1,6 +1,7 @@
 //! The definition of what a text means, computed on small texts.
-ghost use Rattle.std.specs.Prelude.{◌≡◌, ◌∷◌, [], Some, None, codes, pos};
-ghost use Rattle.circuit_lines.specs.declared.line.Shape.TheVariants.{Bitvec, Zero, Constd, Next};
+ghost use Rattle.std.specs.Prelude.{◌≡◌, ◌∷◌, [], Some, None, codes, pos, negsuc};
+ghost use Rattle.circuit_lines.specs.declared.line.Shape.TheVariants.{Bitvec, Zero, Constd, Next, Un};
+ghost use Rattle.knox_words.specs.declared.op.Op1.TheVariants.{Not};
 ghost use Rattle.btor_read.specs.Examples.{line, size_of};
 ghost use Rattle.btor_read.specs.Grammar.{lines_of};
 
@@ -17,7 +18,9 @@ pub fn lines_as_expected()
     ensures too_many { lines_of (codes "1 zero 7 a b") ≡ None }
     ensures no_number { lines_of (codes "1 zero 7a") ≡ None }
     ensures lone_carriage_return { lines_of (codes "1 zero 7\r") ≡ None }
-    ensures too_large { lines_of (codes "1 zero 4294967296") ≡ None }
+    ensures too_large { lines_of (codes "4294967296 zero 1") ≡ None }
+    ensures order { lines_of (codes "2 zero 7\n\n2 ones 7") ≡ None }
+    ensures complement { lines_of (codes "9 not 1 -2") ≡ Some (line 9 1 (Un Not 1 (negsuc 1)) [] ∷ []) }
 {}
 
 /// Which texts mean circuits, by the numbers of their lines.

@@ -1,7 +1,7 @@
 //! Texts that are read, and texts that are refused at their lines.
 use crate::read_circuit;
-use knox_circuit::{BtorFault, Circuit, Noise, Why};
-use knox_words::{Words, word_or};
+use knox_circuit::{BtorFault, Circuit, Inputs, Noise, State, Why};
+use knox_words::{Word, Words, word_or};
 use std::alloc::{AllocError, Global};
 use std::test::Fail;
 
@@ -106,51 +106,137 @@ fn take_noise(circuit: &Circuit, keep: &[bool], states: &[(u32, u32)]) -> Result
 }
 
 /// Texts that are one edit away from the form.
-const REFUSED: [&[u8]; 43] = [
+const REFUSED: [&[u8]; 30] = [
     b"1",
     b"sort bitvec 1",
-    b"x sort bitvec 1",
-    b"-1 sort bitvec 1",
-    b"+1 sort bitvec 1",
     b"0 sort bitvec 1",
     b"4294967296 sort bitvec 1",
     b"1 sort",
-    b"1 sort bitvec",
     b"1 sort bitvec x",
     b"1 sort bitvec 0",
-    b"1 sort bitvec 129",
-    b"1 sort bitvec 1 a b",
     b"1 sort bitvec 1;a b",
     b"1 sort bitvec 1\r",
     b"1 sort bitvec 1\r\r\n",
     b"1 Sort bitvec 1",
     b"1 sort bitvec\x0b1",
-    b"1 sort bitvec 1\n1 zero 1",
     b"2 sort bitvec 1\n1 zero 2",
     b"1 sort bitvec 1\n2 zero 2",
     b"1 sort bitvec 1\n2 zero 3",
     b"1 sort bitvec 1\n2 zero -1",
-    b"1 sort bitvec 1\n2 one 1",
-    b"1 sort bitvec 1\n2 ones 1",
-    b"1 sort bitvec 1\n2 const 1 1",
-    b"1 sort bitvec 1\n2 consth 1 1",
+    b"1 sort bitvec 1\n2 const 1 2",
+    b"1 sort bitvec 1\n2 const 1 -1",
+    b"1 sort bitvec 1\n2 consth 1 2",
     b"1 sort bitvec 1\n2 constd 1",
-    b"1 sort bitvec 1\n2 constd 1 2",
     b"1 sort bitvec 1\n2 constd 1 -2",
-    b"1 sort bitvec 1\n2 constd 1 x",
+    b"1 sort bitvec 1\n2 constd 1 -",
     b"1 sort bitvec 1\n2 sort array 1 1",
-    b"1 sort bitvec 1\n2 zero 1\n3 not 1 -2",
-    b"1 sort bitvec 1\n2 zero 1\n3 inc 1 2",
-    b"1 sort bitvec 1\n2 zero 1\n3 or 1 2 2",
+    b"1 sort bitvec 1\n2 zero 1\n3 not 1 -3",
+    b"1 sort bitvec 1\n2 zero 1\n3 not 1 -0",
     b"1 sort bitvec 1\n2 zero 1\n3 and 1 2",
-    b"1 sort bitvec 1\n2 zero 1\n3 and 1 2 3",
     b"1 sort bitvec 1\n2 sort bitvec 2\n3 zero 2\n4 redor 2 3",
-    b"1 sort bitvec 1\n2 zero 1\n3 bad 2",
-    b"1 sort bitvec 1\n2 state 1",
     b"1 sort bitvec 1\n2 zero 1\n3 state 1\n4 init 1 3 2",
     b"1 sort bitvec 1\n2 zero 1\n3 state 1\n4 init 1 3 2\n5 next 1 3 2\n6 next 1 3 2",
     b"1 sort bitvec 1\n2 input 1\n3 state 1\n4 init 1 3 2\n5 next 1 3 2",
 ];
+
+/// Words of 4 bits by each form of constants: 11 and 3, which are -5 and 3 with signs.
+const CONSTANTS: &[u8] = b"1 sort bitvec 1
+2 sort bitvec 3
+3 sort bitvec 4
+4 sort bitvec 8
+10 const 3 1011
+11 constd 3 -5
+12 consth 3 b
+13 constd 3 3
+14 zero 3
+15 one 1
+16 ones 3
+17 bad 15
+18 fair -15
+19 justice 2 15 -15
+";
+
+/// What a line of the number 20 says behind the constants, and its word: width and value. The values
+/// are worked by hand on 1011 and 0011.
+const OPERATORS: [(&[u8], u8, u128); 52] = [
+    (b"not 3 10", 4, 4),
+    (b"inc 3 10", 4, 12),
+    (b"dec 3 10", 4, 10),
+    (b"neg 3 10", 4, 5),
+    (b"redand 1 10", 1, 0),
+    (b"redor 1 10", 1, 1),
+    (b"redxor 1 10", 1, 1),
+    (b"iff 1 15 -15", 1, 0),
+    (b"implies 1 15 -15", 1, 0),
+    (b"eq 1 10 13", 1, 0),
+    (b"neq 1 10 13", 1, 1),
+    (b"ugt 1 10 13", 1, 1),
+    (b"ugte 1 10 13", 1, 1),
+    (b"ult 1 10 13", 1, 0),
+    (b"ulte 1 10 13", 1, 0),
+    (b"sgt 1 10 13", 1, 0),
+    (b"sgte 1 10 13", 1, 0),
+    (b"slt 1 10 13", 1, 1),
+    (b"slte 1 10 13", 1, 1),
+    (b"and 3 10 13", 4, 3),
+    (b"nand 3 10 13", 4, 12),
+    (b"nor 3 10 13", 4, 4),
+    (b"or 3 10 13", 4, 11),
+    (b"xnor 3 10 13", 4, 7),
+    (b"xor 3 10 13", 4, 8),
+    (b"sll 3 10 13", 4, 8),
+    (b"srl 3 10 13", 4, 1),
+    (b"sra 3 10 13", 4, 15),
+    (b"rol 3 10 13", 4, 13),
+    (b"ror 3 10 13", 4, 7),
+    (b"add 3 10 13", 4, 14),
+    (b"sub 3 10 13", 4, 8),
+    (b"mul 3 10 13", 4, 1),
+    (b"udiv 3 10 13", 4, 3),
+    (b"sdiv 3 10 13", 4, 15),
+    (b"urem 3 10 13", 4, 2),
+    (b"srem 3 10 13", 4, 14),
+    (b"smod 3 10 13", 4, 1),
+    (b"concat 4 10 13", 8, 179),
+    (b"slice 2 10 3 1", 3, 5),
+    (b"uext 4 10 4", 8, 11),
+    (b"sext 4 10 4", 8, 251),
+    (b"ite 3 15 10 13", 4, 11),
+    (b"ite 3 -15 10 13", 4, 3),
+    // The forms of constants.
+    (b"eq 1 10 11", 1, 1),
+    (b"eq 1 10 12", 1, 1),
+    (b"add 3 14 13", 4, 3),
+    (b"sub 3 16 13", 4, 12),
+    // Complements, and numbers with zeros before them.
+    (b"add 3 -10 13", 4, 7),
+    (b"and 3 10 -13", 4, 8),
+    (b"neq 1 -14 16", 1, 0),
+    (b"slice 0002 -0010 03 01", 3, 2),
+];
+
+/// The constants, a line behind them, and the output of its node.
+fn text_with(alloc: Global, line: &[u8]) -> Result<Vec<u8>, AllocError> {
+    let mut text = Vec::from_slice(alloc, CONSTANTS)?;
+    for part in [b"20 ".as_slice(), line, b"\n21 output 20\n".as_slice()] {
+        text.extend_from_slice(part)?;
+    }
+    Ok(text)
+}
+
+/// The word of the first output of a circuit without inputs and cells.
+fn output_word(alloc: Global, circuit: &Circuit) -> Result<Word, AllocError> {
+    let mut room = circuit.scratch()?;
+    let state = State {
+        words: Words::new(alloc),
+    };
+    let inputs = Inputs {
+        words: Words::new(alloc),
+    };
+    let mut out = vec![in alloc; word_or(1, 0); circuit.outputs_list().len()]?;
+    circuit.outputs(&state, &inputs, &mut room, out.as_mut_slice());
+    Ok(knox_words::word_at(out.as_slice(), 0))
+}
 
 #[test]
 fn unusual_spellings_are_read(rt: HostRuntime) {
@@ -166,6 +252,17 @@ fn texts_beside_the_form_are_refused(rt: HostRuntime) {
     for text in &REFUSED {
         assert!(rt; !is_read(alloc, text));
     }
+}
+
+#[test]
+fn operators_and_constants_have_their_values(rt: HostRuntime) -> Result<(), Fail> {
+    let alloc = rt.alloc();
+    for (line, width, value) in &OPERATORS {
+        let text = text_with(alloc, line)?;
+        let circuit = read(alloc, text.as_slice()).map_err(|_| "the text is refused")?;
+        assert_eq!(rt; output_word(alloc, &circuit)?, word_or(*width, *value));
+    }
+    Ok(())
 }
 
 #[test]

@@ -25,16 +25,17 @@ type Edit = (Which, &'static [u8], &'static [u8]);
 pub(crate) const LAST: &[u8] = b"21 output 12 ok\n";
 
 const CIRCUITS: [&[u8]; 15] = [
-    // A width over 128, a sort and constants that are not of the form.
+    // A width over 128, a sort that is not of the form, an invariant, and digits to the base 2.
     b"22 sort bitvec 129\n",
     b"22 sort array 1 1\n",
-    b"22 one 1\n",
-    b"22 const 1 1\n",
-    // A constant that is too large, one too small, and operators that are not of the form.
+    b"22 constraint 12\n",
+    b"22 const 1 2\n",
+    // A constant that is too large, one too small, a complement of another width, and a first value
+    // by a state.
     b"22 constd 2 4\n",
     b"22 constd 2 -3\n",
-    b"22 add 3 10 10\n",
-    b"22 not 3 -10\n",
+    b"22 add 3 10 -8\n",
+    b"22 state 1 x\n23 init 1 22 12\n24 next 1 22 12\n",
     // Numbers that stand twice or fall, and an operand that names no node.
     b"21 sort bitvec 3\n",
     b"20 sort bitvec 3\n",

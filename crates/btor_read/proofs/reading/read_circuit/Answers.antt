@@ -9,10 +9,9 @@ loop-cut-preserved c =
     let room = c.loop-cut.invariant.room in
     record {
       room = omega (arith, shorter, room);
-      whole = row-read c.loop-cut.draft.lines c.read_line.new.draft.lines c.loop-cut.rest.now c.in-Some.cut.piece.now c.in-Some.cut.rest.now (c.loop-cut.at + 1) (circuit_of c.args.bytes.now) c.in-Some.ensures.line c.in-Ok.ensures.ok c.loop-cut.invariant.whole;
+      whole = row-read c.loop-cut.draft.lines c.add_line.new.draft.lines c.loop-cut.rest.now c.in-Some.cut.piece.now c.in-Some.cut.rest.now (c.loop-cut.at + 1) c.loop-cut.last c.in-Ok.number (circuit_of c.args.bytes.now) c.in-Some.ensures.line c.in-Ok.ensures.ok c.in-Ok.ensures.last c.loop-cut.invariant.whole;
       form = c.in-Ok.ensures.form;
-      last = c.in-Ok.ensures.last;
     }
 
 pub returns-in-Err-clause-refused : goal.returns-in-Err-clause-refused
-returns-in-Err-clause-refused c = λ other. row-refused c.loop-cut.draft.lines c.loop-cut.rest.now c.in-Some.cut.piece.now c.in-Some.cut.rest.now (c.loop-cut.at + 1) (circuit_of c.args.bytes.now) c.in-Some.ensures.line (c.in-Err.ensures.err other) c.loop-cut.invariant.whole
+returns-in-Err-clause-refused c = λ other. row-refused c.loop-cut.draft.lines c.loop-cut.rest.now c.in-Some.cut.piece.now c.in-Some.cut.rest.now (c.loop-cut.at + 1) c.loop-cut.last (circuit_of c.args.bytes.now) c.in-Some.ensures.line (c.in-Err.ensures.err other) c.loop-cut.invariant.whole

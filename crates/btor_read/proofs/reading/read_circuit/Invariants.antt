@@ -1,6 +1,5 @@
 use Rattle.std.proofs.Common.{◌≡◌, ◌≤◌, ◌+◌, length, reverse, true}
 use Rattle.knox_text.specs.Lines.{lines}
-use Rattle.circuit_rules.specs.Rules.{last_number}
 use Rattle.btor_read.specs.Grammar.{rows, formed, circuit_of}
 use Rattle.btor_read.specs.Growing.{with_rest}
 use Rattle.btor_read.proofs.reading.read_circuit.Given as goal
@@ -8,9 +7,8 @@ use Rattle.btor_read.proofs.reading.read_circuit.Given as goal
 abbrev pub invariant-loop-cut : goal.invariant-loop-cut
 invariant-loop-cut l = record {
   room : l.at + length l.rest ≤ 67108864;
-  whole : with_rest l.draft.lines (rows (l.at + 1) (lines l.rest)) ≡ circuit_of l.bytes;
+  whole : with_rest l.draft.lines (rows (l.at + 1) l.last (lines l.rest)) ≡ circuit_of l.bytes;
   form : formed (reverse l.draft.lines) ≡ true;
-  last : l.last ≡ last_number (reverse l.draft.lines);
 }
 
 abbrev pub decreases-loop-cut : goal.decreases-loop-cut
