@@ -1,52 +1,24 @@
-//! Reading a circuit, line after line.
-ghost use Rattle.std.specs.Prelude.{◌≡◌, ◌≢◌, ◌≤◌, ◌⊎◌, length, reverse, Some, None, Ok, Err, true, false, IfOk, IfErr, OnOk};
-ghost use Rattle.line_read.specs.Tokens.{tokens_of};
-ghost use Rattle.line_read.specs.Faults.{said};
-ghost use Rattle.btor_read.specs.Grammar.{row, number_behind, formed, circuit_of};
-ghost use Rattle.btor_read.specs.Growing.{grown};
+//! Reading a circuit.
+ghost use Rattle.std.specs.Prelude.{◌≡◌, ◌≢◌, ◌≤◌, ◌⊎◌, length, IfOk, IfErr};
+ghost use Rattle.circuit_lines.specs.declared.fault.BtorFault.{BtorFault};
+ghost use Rattle.knox_circuit.specs.Circuit.{Circuit};
+ghost use Rattle.text_lines.specs.Meaning.{FaultsAt};
+ghost use Rattle.btor_read.specs.Grammar.{IsCircuit};
 
-use knox_circuit::{BtorFault, Circuit, Draft, Why};
+use circuit_lines::{BtorFault, Why};
+use knox_circuit::Circuit;
 use std::alloc::Global;
 
-/// Adds the line that stands on text line `at`, after one with the number `last`. Gives its number,
-/// or `last` where the text line has no token.
-#[tactic(auto, using(crate::proofs::Rows::grown_steps))]
-fn add_line(alloc: Global, draft: &mut Draft, at: u32, last: u32, text: &[u8]) -> Result<u32, Why>
-    requires form { formed (reverse draft.old.lines) ≡ true }
-    ensures ok { OnOk result (grown draft.old.lines (row (said at last (tokens_of text.now))) ≡ Some draft.new.lines) }
-    ensures form { OnOk result (formed (reverse draft.new.lines) ≡ true) }
-    ensures last { IfOk result (λ n. number_behind last (said at last (tokens_of text.now)) ≡ n) }
-    ensures err { IfErr result (λ why. why ≢ Why.Memory → grown draft.old.lines (row (said at last (tokens_of text.now))) ≡ None) }
-{
-    let said = line_read::read_line(alloc, text, at, last)?;
-    let Some(line) = said else {
-        return Ok(last);
-    };
-    let number = line.number;
-    draft.add(line)?;
-    Ok(number)
-}
-
-/// The circuit that a text means, or a text line that is none of the form, with a rule that it
-/// breaks. A text has at most 64 MiB.
-#[tactic(auto, using(crate::proofs::Circuits::circuit_steps))]
+/// The circuit that a text means, or its first fault. A text has at most 64 MiB.
 pub fn read_circuit(alloc: Global, bytes: &[u8]) -> Result<Circuit, BtorFault>
     requires { length bytes.now ≤ 67108864 }
-    ensures found { IfOk result (λ c. circuit_of bytes.now ≡ Some c) }
-    ensures refused { IfErr result (λ fault. fault.why ≢ Why.Memory → circuit_of bytes.now ≡ None) }
+    ensures found { IfOk result (λ c. IsCircuit bytes.now c) }
+    ensures only { (c : Circuit) → IsCircuit bytes.now c → IfErr result (λ f. f.why ≡ Why.Memory) }
+    ensures fault { IfErr result (λ f. f.why ≢ Why.Memory → FaultsAt bytes.now f) }
+    ensures told { (first : BtorFault) → FaultsAt bytes.now first → IfErr result (λ f. (f ≡ first) ⊎ (f.why ≡ Why.Memory)) }
+    ensures refused { (first : BtorFault) → FaultsAt bytes.now first → IfOk result (λ _. ⊥) }
 {
-    let mut draft = Draft::new(alloc);
-    let mut rest = bytes;
-    let mut at = 0u32;
-    let mut last = 0u32;
-    while let Some(cut) = knox_text::cut_line(rest) {
-        at += 1;
-        match add_line(alloc, &mut draft, at, last, cut.piece) {
-            Ok(number) => last = number,
-            Err(why) => return Err(BtorFault { line: at, why }),
-        }
-        rest = cut.rest;
-    }
-    let circuit = draft.finish()?;
+    let lines = text_lines::read_lines(alloc, bytes)?;
+    let circuit = Circuit::of(alloc, lines)?;
     Ok(circuit)
 }

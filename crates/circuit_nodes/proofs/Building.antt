@@ -8,12 +8,13 @@ use Rattle.circuit_nodes.specs.declared.node.Node.{Node}
 use Rattle.circuit_nodes.specs.declared.power.Fresh.{Fresh}
 use Rattle.circuit_nodes.specs.declared.power.Fresh.TheVariants as fresh
 use Rattle.circuit_nodes.specs.declared.power.Start.{Start}
-use Rattle.circuit_nodes.specs.Values.{Given, Value, given, value_at, arg_word, words_from, IsFilled}
+use Rattle.circuit_nodes.specs.Values.{Given, Value, given, value_at, arg_word, words_from, words_within, IsFilled}
 use Rattle.circuit_nodes.specs.Ticks.{first_words}
 use Rattle.circuit_nodes.specs.Starts.{values, words_by, fresh_words, noise_taken, placed, with_start, built, Keeps, AreSettled}
 use Rattle.circuit_nodes.specs.Sources.{source_of, base_value, put_words, room_arg}
-use Rattle.circuit_nodes.proofs.Places.{value_at-append, room_arg-filled}
-use Rattle.circuit_nodes.proofs.Taken.{value-source, put_words-first, length-first_words}
+use Rattle.circuit_nodes.proofs.Lists.{drop-next}
+use Rattle.circuit_nodes.proofs.Places.{value_at-front, room_arg-filled}
+use Rattle.circuit_nodes.proofs.Taken.{value-source, put_words-first, length-first_words, first_words-within}
 
 -- what a state gets
 
@@ -25,7 +26,10 @@ stage-array ns state room k n f =
     put_words-first room ns (source_of room ns k).chain (base_value state (source_of room ns k).base) n
     ∙ ap (λ (v : Value). first_words v n) (sym (value-source (given [] state) ns room (length ns) k f))
 
-pub ruleset stage_steps = (stage-word, stage-array)
+pub stage-words : (words : List Bits) (first n : ℕ) → first_words (words_within words first n) n ≡ first_words (words_from words first) n
+stage-words words first n = first_words-within words first n n (omega arith)
+
+pub ruleset stage_steps = (stage-word, stage-array, stage-words)
 
 -- the first nodes
 
@@ -33,19 +37,13 @@ pub filled-front : (g : Given) (ns : List Node) (room : List Bits) (n : ℕ) →
 filled-front g ns room n le f k h =
     let long : length (take n ns) ≡ n = length-take-le n ns le in
     let lt : k < n = omega (arith, long, h) in
-    let same : value_at g ns n k ≡ value_at g (take n ns) n k =
-    ap (λ (z : List Node). value_at g z n k) (sym (take-append-drop n ns))
-    ∙ value_at-append g (take n ns) (drop n ns) n k (omega (arith, long)) in
-    f k lt ∙ (ap (λ (v : Value). v 0) same ∙ ap (λ (i : ℕ). value_at g (take n ns) i k 0) (sym long))
+    f k lt ∙ (ap (λ (v : Value). v 0) (sym (value_at-front g ns n k le)) ∙ ap (λ (i : ℕ). value_at g (take n ns) i k 0) (sym long))
 
 pub filled-back : (g : Given) (ns : List Node) (room : List Bits) (n : ℕ) → n ≤ length ns → IsFilled g (take n ns) room (length (take n ns)) → IsFilled g ns room n
 filled-back g ns room n le f k h =
     let long : length (take n ns) ≡ n = length-take-le n ns le in
     let lt : k < length (take n ns) = omega (arith, long, h) in
-    let same : value_at g ns n k ≡ value_at g (take n ns) n k =
-    ap (λ (z : List Node). value_at g z n k) (sym (take-append-drop n ns))
-    ∙ value_at-append g (take n ns) (drop n ns) n k (omega (arith, long)) in
-    f k lt ∙ (ap (λ (i : ℕ). value_at g (take n ns) i k 0) long ∙ ap (λ (v : Value). v 0) (sym same))
+    f k lt ∙ (ap (λ (i : ℕ). value_at g (take n ns) i k 0) long ∙ ap (λ (v : Value). v 0) (value_at-front g ns n k le))
 
 -- words that nodes keep stay filled
 pub filled-keeps : (ns : List Node) (room state other : List Bits) → Keeps ns state other → IsFilled (given [] state) ns room (length ns) → IsFilled (given [] other) ns room (length ns)
@@ -59,14 +57,6 @@ take-least ns n = ap (λ (m : ℕ). take m ns) (omega arith) ∙ take_min n ns
 pub put-placed : (state ws : List Bits) (first n : ℕ) → length ws ≡ n → put_mid first n state ws ≡ placed state first ws
 put-placed state ws first n long =
     ap (λ (z : List Bits). take first state ++ (ws ++ z)) (drop-drop n first state ∙ ap (λ (m : ℕ). drop (first + m) state) (sym long))
-
-pub start-suc : (starts : List Start) (k : ℕ) (s : Start) → slice_get starts k ≡ Some s → drop k starts ≡ s ∷ drop (suc k) starts
-start-suc [] k s is = cc
-start-suc (x ∷ xs) zero s is = let e : x ≡ s = cc in rw e refl
-start-suc (x ∷ xs) (suc k) s is = start-suc xs k s is
-
-pub start-next : (starts : List Start) (k : ℕ) (s : Start) → slice_get starts k ≡ Some s → drop k starts ≡ s ∷ drop (k + 1) starts
-start-next starts k s is = rw add-one (start-suc starts k s is)
 
 pub length-words_by : (at : ℕ → Value) (first : ℕ) (old noise : List Bits) (n : ℕ) (f : Fresh) → length (words_by at first old noise n f) ≡ n
 length-words_by at first old noise n fresh.Kept = length-first_words (words_from old first) n
@@ -83,7 +73,7 @@ pub step-more : (ns : List Node) (starts : List Start) (old noise state room who
 step-more ns starts old noise state room whole k upto s after is up put so_far settled filled =
     let front : take upto ns ≡ take s.nodes ns = ap (λ (z : ℕ). take z ns) up ∙ take-least ns s.nodes in
     let now : after ≡ with_start ns s old noise state = put ∙ ap (λ (z : List Node). placed state s.first (fresh_words z s old noise state)) front in
-    let next = start-next starts k s is in
+    let next = drop-next starts k s is in
     let all : AreSettled ns (s ∷ drop (k + 1) starts) old noise state = subst (λ (z : List Start). AreSettled ns z old noise state) next settled in
     let le : upto ≤ length ns = omega (arith, up) in
     let keeps : Keeps (take upto ns) state (with_start ns s old noise state) = subst (λ (z : List Node). Keeps z state (with_start ns s old noise state)) (sym front) all.0 in

@@ -1,3 +1,4 @@
+pub mod Lists
 pub mod Places
 pub mod Chains
 pub mod Taken
@@ -6,3 +7,5 @@ pub mod Building
 pub mod Reading
 pub mod Moving
 pub mod Ranking
+pub mod Settling
+pub mod Hanging

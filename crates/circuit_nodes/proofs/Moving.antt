@@ -1,5 +1,5 @@
 -- Nodes in another order have their values.
-use Rattle.std.proofs.Common.{◌≡◌, ℕ, zero, suc, ◌<◌, ◌≤◌, ◌==◌, List, [], ◌∷◌, Some, Bool, length, slice_get, slice_index_or, map, if◌then◌else◌, refl, sym, ◌∙◌, ap, arith, eq-eqb, inl, inr}
+use Rattle.std.proofs.Common.{◌≡◌, ℕ, zero, suc, ◌<◌, ◌≤◌, ◌==◌, List, [], ◌∷◌, Some, Bool, length, slice_get, slice_index_or, if◌then◌else◌, refl, sym, ◌∙◌, ap, arith, eq-eqb, inl, inr}
 use Rattle.std.proofs.lemmas.Bool.{cases_lt, cases_eq, lt-ltb, le-ltb}
 use Rattle.std.proofs.lemmas.Option.{slice_get-get_or, slice_get_within}
 use Rattle.knox_words.specs.Bits.{Bits, ite_value}
@@ -10,20 +10,21 @@ use Rattle.circuit_nodes.specs.declared.node.Node.{Node}
 use Rattle.circuit_nodes.specs.declared.node.Node.TheVariants as node
 use Rattle.circuit_nodes.specs.Values.{Given, Value, value_at, level, level_or_zero, arg_word, constant, written, zero_word}
 use Rattle.circuit_nodes.specs.Orders.{operands, moved, moved_arg, moved_at, node_or, new_place, no_place, reordered, Each, StandsBefore, IsInOrder}
+use Rattle.circuit_nodes.proofs.Lists.{slice_get-mapped}
 use Rattle.circuit_nodes.proofs.Places.{differs, value_at-none, value_at-later, stands}
 
 -- an operand gives the same at its new place
 abbrev pub Agrees : (ℕ → ℕ) → (ℕ → Value) → (ℕ → Value) → ℕ → Type 0
 Agrees f by at o = by (f o) ≡ at o
 
-moved_word : (f : ℕ → ℕ) (by at : ℕ → Value) (a : Arg) → Agrees f by at a.node → arg_word by (moved_arg f a) ≡ arg_word at a
+pub moved_word : (f : ℕ → ℕ) (by at : ℕ → Value) (a : Arg) → Agrees f by at a.node → arg_word by (moved_arg f a) ≡ arg_word at a
 moved_word f by at a e = ap (λ (v : Value). if a.complement then op1_value Not (v 0) else v 0) e
 
 pub level-moved : (g : Given) (f : ℕ → ℕ) (by at : ℕ → Value) (n : Node) → Each (Agrees f by at) (operands n) → level g by (moved f n) ≡ level g at n
 level-moved g f by at (node.Const w) r = refl
 level-moved g f by at (node.Input p) r = refl
 level-moved g f by at (node.State p) r = refl
-level-moved g f by at (node.Array p) r = refl
+level-moved g f by at (node.Array p n) r = refl
 level-moved g f by at (node.Un o a) r = ap (λ (x : Bits). constant (op1_value o x)) (moved_word f by at a r.0)
 level-moved g f by at (node.Bin o a b) r =
     ap (λ (x : Bits). constant (op2_or o x (arg_word by (moved_arg f b)))) (moved_word f by at a r.0)
@@ -47,14 +48,10 @@ level-moved g f by at (node.Write a i w) r =
     ∙ (ap (λ (x : Bits). written (at a) x.value (arg_word by (moved_arg f w))) (moved_word f by at i r.1.0)
     ∙ ap (λ (x : Bits). written (at a) (arg_word at i).value x) (moved_word f by at w r.1.1.0))
 
-each-one : (P Q : ℕ → Type 0) (os : List ℕ) → ((o : ℕ) → P o → Q o) → Each P os → Each Q os
+-- what holds of each place of a list follows for each
+pub each-one : (P Q : ℕ → Type 0) (os : List ℕ) → ((o : ℕ) → P o → Q o) → Each P os → Each Q os
 each-one P Q [] h r = tt
 each-one P Q (o ∷ os) h r = (h o r.0, each-one P Q os h r.1)
-
-slice_get-map : (F : ℕ → Node) (order : List ℕ) (j k : ℕ) → slice_get order j ≡ Some k → slice_get (map F order) j ≡ Some (F k)
-slice_get-map F [] j k is = cc
-slice_get-map F (x ∷ order) zero k is = let e : x ≡ k = cc in ap (λ (z : ℕ). Some (F z)) e
-slice_get-map F (x ∷ order) (suc j) k is = slice_get-map F order j k is
 
 -- an operand at its new place, where the nodes before have their values
 operand-moved : (g : Given) (ns ms : List Node) (places order : List ℕ) (i k o : ℕ) → i ≤ no_place → k < length ns → ((j m : ℕ) → j < i → slice_get order j ≡ Some m → value_at g ms i j ≡ value_at g ns (length ns) m) → StandsBefore places order k i o → Agrees (new_place places k) (value_at g ms i) (value_at g ns k) o
@@ -79,7 +76,7 @@ value-moved g ns places order (suc i) j k ordered few lt is =
       | inl e ↦
           let here : slice_get order i ≡ Some k = ap (slice_get order) (sym e) ∙ is in
           let known = ordered i k here in
-          let stood : slice_get ms i ≡ Some (moved_at ns places k) = slice_get-map (moved_at ns places) order i k here in
+          let stood : slice_get ms i ≡ Some (moved_at ns places k) = slice_get-mapped (moved_at ns places) order i k here in
           let own : slice_get ns k ≡ Some (node_or ns k) = slice_get-get_or ns k (node.Const zero_word) known.0 in
           let before : (m l : ℕ) → m < i → slice_get order m ≡ Some l → value_at g ms i m ≡ value_at g ns (length ns) l = (λ m l less_m is_m. value-moved g ns places order i m l ordered less less_m is_m) in
           rw (e, eq-eqb i i refl)

@@ -1,21 +1,19 @@
 -- Ranks of nodes, and their order by rank.
 use Rattle.std.proofs.Common.{◌≡◌, ◌≢◌, ℕ, zero, suc, ◌+◌, ◌-◌, ◌<◌, ◌≤◌, ◌==◌, ◌⊎◌, max, List, [], ◌∷◌, ◌++◌, Some, Bool, true, false, nat_lt, subst, add-zero, set, take, drop, length, slice_get, slice_index_or, get_or, get_or-set_other, get_or-set_same, refl, sym, ◌∙◌, ap, arith, add-one, eq-eqb, inl, inr, map}
 use Rattle.std.proofs.lemmas.Bool.{cases_lt, cases_eq, lt-ltb, le-ltb}
-use Rattle.std.proofs.lemmas.List.{length-take-le, take_more, take_all, get_or_default}
-use Rattle.std.proofs.lemmas.List.Sorted.{All-permutation, Contains-permutation}
+use Rattle.std.proofs.lemmas.List.{length-take-le, take_more, take_all, get_or_default, length-map}
+use Rattle.std.proofs.lemmas.List.Sorted.{All-permutation, Contains-permutation, length_permutation}
 use Rattle.std.specs.List.{All, Contains}
 use Rattle.std.specs.List.Sorted.{IsPermutation, IsSortedBy}
 use Rattle.std.specs.Ordering.{is_lt, nat_cmp, ordering_then}
 use Rattle.circuit_nodes.specs.declared.node.Node.{Node}
 use Rattle.circuit_nodes.specs.declared.node.Node.TheVariants as node
 use Rattle.circuit_nodes.specs.Orders.{operands, no_place, node_or, greatest, rank_level, rank_at, IsRanked, keys_from, IsByRank, IsPlaced, Each, StandsBefore, IsInOrder}
+use Rattle.circuit_nodes.proofs.Moving.{each-one}
 use Rattle.circuit_nodes.proofs.Places.{differs}
 
-same : (a b : ℕ) → a ≡ b → a == b ≡ true
-same a b e = eq-eqb a b e
-
 pub rank_at-own : (numbers : List ℕ) (ns : List Node) (i : ℕ) → rank_at numbers ns (i + 1) i ≡ rank_level numbers (rank_at numbers ns i) (node_or ns i)
-rank_at-own numbers ns i = rw (add-one, same i i refl) refl
+rank_at-own numbers ns i = rw (add-one, eq-eqb i i refl) refl
 
 pub rank_at-past : (numbers : List ℕ) (ns : List Node) (i k : ℕ) → k < i → rank_at numbers ns (i + 1) k ≡ rank_at numbers ns i k
 rank_at-past numbers ns i k h = let ne : (k ≡ i → ⊥) = (λ e. omega arith) in rw (add-one, differs k i ne) refl
@@ -31,7 +29,7 @@ pub rank_at-at : (numbers : List ℕ) (ns : List Node) (i k : ℕ) → k < i →
 rank_at-at numbers ns zero k h = absurd (omega arith)
 rank_at-at numbers ns (suc i) k h = elim (cases_lt k i) [
   | inl lt ↦ let ne : (k ≡ i → ⊥) = (λ e. omega arith) in rw (differs k i ne) (rank_at-at numbers ns i k lt)
-  | inr le ↦ let e : k ≡ i = omega arith in rw (e, same i i refl) refl
+  | inr le ↦ let e : k ≡ i = omega arith in rw (e, eq-eqb i i refl) refl
 ]
 
 -- one more place is ranked
@@ -154,6 +152,7 @@ pub by-rank : (ranks : List ℕ) (items : List (ℕ × ℕ)) → IsPermutation (
 by-rank ranks items moved sorted =
     let all : All (IsKey ranks) items = All-permutation (IsKey ranks) (keys_from 0 ranks) items moved (keys-all ranks) in
     record {
+      long = length-map items place_in ∙ (length_permutation (keys_from 0 ranks) items moved ∙ length-keys 0 ranks);
       within = λ j k is. let at = place-at items j k is in let key = all j (0, 0) at.0 in omega (arith, at.1, key.0);
       whole = λ k lt.
           let found = Contains-permutation (keys_from 0 ranks) items (get_or ranks k 0, k) moved (keys-whole ranks k lt) in
@@ -201,11 +200,11 @@ greatest-each at (o ∷ os) n h =
     let right : greatest at os ≤ max (at o) (greatest at os) = omega arith in
     (omega (arith, left, h), greatest-each at os n (omega (arith, right, h)))
 
-operands-below : (numbers : List ℕ) (at : ℕ → ℕ) (n : Node) → Each (λ (o : ℕ). at o ≤ rank_level numbers at n) (operands n)
+pub operands-below : (numbers : List ℕ) (at : ℕ → ℕ) (n : Node) → Each (λ (o : ℕ). at o ≤ rank_level numbers at n) (operands n)
 operands-below numbers at (node.Const w) = tt
 operands-below numbers at (node.Input p) = tt
 operands-below numbers at (node.State p) = tt
-operands-below numbers at (node.Array p) = tt
+operands-below numbers at (node.Array p n) = tt
 operands-below numbers at (node.Un o a) = greatest-each at (operands (node.Un o a)) _ (omega arith)
 operands-below numbers at (node.Bin o a b) = greatest-each at (operands (node.Bin o a b)) _ (omega arith)
 operands-below numbers at (node.Slice a h l) = greatest-each at (operands (node.Slice a h l)) _ (omega arith)
@@ -215,10 +214,6 @@ operands-below numbers at (node.Ite c a b) = greatest-each at (operands (node.It
 operands-below numbers at (node.Pick c a b) = greatest-each at (operands (node.Pick c a b)) _ (omega arith)
 operands-below numbers at (node.Read a i) = greatest-each at (operands (node.Read a i)) _ (omega arith)
 operands-below numbers at (node.Write a i w) = greatest-each at (operands (node.Write a i w)) _ (omega arith)
-
-each-one : (P Q : ℕ → Type 0) (os : List ℕ) → ((o : ℕ) → P o → Q o) → Each P os → Each Q os
-each-one P Q [] h r = tt
-each-one P Q (o ∷ os) h r = (h o r.0, each-one P Q os h r.1)
 
 operand-stands : (numbers : List ℕ) (ns : List Node) (ranks places order : List ℕ) (j k o : ℕ) → length ranks ≡ length ns → IsRanked numbers ns ranks (length ns) → IsByRank ranks order → IsPlaced places order → slice_get order j ≡ Some k → k < length ns → rank_at numbers ns k o ≤ rank_level numbers (rank_at numbers ns k) (node_or ns k) → StandsBefore places order k j o
 operand-stands numbers ns ranks places order j k o long ranked by placed is within below before =

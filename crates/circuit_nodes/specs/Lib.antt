@@ -4,3 +4,4 @@ pub mod Starts
 pub mod Hops
 pub mod Sources
 pub mod Orders
+pub mod Settled

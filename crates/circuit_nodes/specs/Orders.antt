@@ -27,7 +27,7 @@ abbrev pub moved : (ℕ → ℕ) → Node → Node
 moved f (node.Const w) = node.Const w
 moved f (node.Input p) = node.Input p
 moved f (node.State p) = node.State p
-moved f (node.Array p) = node.Array p
+moved f (node.Array p n) = node.Array p n
 moved f (node.Un o a) = node.Un o (moved_arg f a)
 moved f (node.Bin o a b) = node.Bin o (moved_arg f a) (moved_arg f b)
 moved f (node.Slice a high low) = node.Slice (moved_arg f a) high low
@@ -77,7 +77,7 @@ greatest at (o ∷ os) = max (at o) (greatest at os)
 -- the rank of a node, over the ranks of the nodes before it: the number of the last state that it hangs on; `numbers` has that of the state at each place
 abbrev pub rank_level : List ℕ → (ℕ → ℕ) → Node → ℕ
 rank_level numbers at (node.State p) = slice_index_or numbers p 0
-rank_level numbers at (node.Array p) = slice_index_or numbers p 0
+rank_level numbers at (node.Array p n) = slice_index_or numbers p 0
 rank_level numbers at n = greatest at (operands n)
 
 -- the rank of the node at place k, over the first i nodes
@@ -100,6 +100,7 @@ Comes ranks a b = (slice_index_or ranks a 0 < slice_index_or ranks b 0) ⊎ ((sl
 
 -- an order of all places by their ranks
 pub record IsByRank (ranks order : List ℕ) : Type 0 where
+  pub long : length order ≡ length ranks
   pub within : (j k : ℕ) → slice_get order j ≡ Some k → k < length ranks
   pub whole : (k : ℕ) → k < length ranks → (j : ℕ) × (slice_get order j ≡ Some k)
   pub ascends : (i j a b : ℕ) → i ≤ j → slice_get order i ≡ Some a → slice_get order j ≡ Some b → Comes ranks a b

@@ -9,14 +9,15 @@ pub struct Arg {
 }
 
 /// What the node at a place gives, over the nodes before it: a constant, a word of the inputs or
-/// of the state by its place there, an array whose words begin at a place of the state, or an
-/// operator. `Pick` is `Ite` over two arrays; `Read` and `Write` take the place of an array.
+/// of the state by its place there, an array whose words begin at a place of the state, so many (the
+/// zero word of width 1 stands at every index behind them), or an operator. `Pick` is `Ite` over two
+/// arrays; `Read` and `Write` take the place of an array.
 #[derive(Clone, Copy, Debug, PartialEq, Eq)]
 pub enum Node {
     Const(Word),
     Input(u32),
     State(u32),
-    Array(u32),
+    Array { first: u32, words: u32 },
     Un(Op1, Arg),
     Bin(Op2, Arg, Arg),
     Slice(Arg, u32, u32),

@@ -20,7 +20,7 @@ fn place_or(places: &[u32], at: usize) -> u32
 }
 
 /// The new place of an operand of the node at place `at`.
-fn new_place(places: &[u32], at: u32, operand: u32) -> u32
+pub(crate) fn new_place(places: &[u32], at: u32, operand: u32) -> u32
     ensures { result ≡ new_place places.now at operand }
 {
     if operand < at {
@@ -30,7 +30,7 @@ fn new_place(places: &[u32], at: u32, operand: u32) -> u32
     }
 }
 
-fn moved_arg(places: &[u32], at: u32, arg: Arg) -> Arg
+pub(crate) fn moved_arg(places: &[u32], at: u32, arg: Arg) -> Arg
     ensures { result ≡ moved_arg (new_place places.now at) arg }
 {
     Arg {
@@ -47,7 +47,7 @@ fn moved(places: &[u32], at: u32, node: Node) -> Node
         Node::Const(w) => Node::Const(w),
         Node::Input(p) => Node::Input(p),
         Node::State(p) => Node::State(p),
-        Node::Array(p) => Node::Array(p),
+        Node::Array { first, words } => Node::Array { first, words },
         Node::Un(o, a) => Node::Un(o, moved_arg(places, at, a)),
         Node::Bin(o, a, b) => { Node::Bin(o, moved_arg(places, at, a), moved_arg(places, at, b)) }
         Node::Slice(a, high, low_bit) => Node::Slice(moved_arg(places, at, a), high, low_bit),

@@ -28,7 +28,7 @@ pub struct Start {
     pub fresh: Fresh,
 }
 
-fn start_at(starts: &[Start], at: usize) -> Start
+pub(crate) fn start_at(starts: &[Start], at: usize) -> Start
     requires { at < length starts.now }
     ensures { slice_get starts.now at ≡ Some result }
 {
@@ -76,8 +76,8 @@ fn stage_fresh(
     ensures { staged.new ≡ fresh_words nodes.now start old.now noise.now state.now }
 {
     match start.fresh {
-        Fresh::Kept => put_state(old, start.first, staged),
-        Fresh::Noise => put_state(noise, 0, staged),
+        Fresh::Kept => put_state(old, start.first, start.words, staged),
+        Fresh::Noise => put_state(noise, 0, start.words, staged),
         Fresh::Word(arg) => staged.fill(room_arg(room, nodes.len(), arg)),
         Fresh::Array(node) => {
             let found = source(nodes, room, node, chain);

@@ -7,7 +7,7 @@ use crate::order::node_or_zero;
 use sqlite_items::Items;
 use std::alloc::{AllocError, Global};
 
-fn number_or_zero(numbers: &[u32], at: usize) -> u32
+pub(crate) fn number_or_zero(numbers: &[u32], at: usize) -> u32
     ensures { result ≡ slice_index_or numbers.now at 0 }
 {
     if at < numbers.len() { numbers[at] } else { 0 }
@@ -44,7 +44,7 @@ fn node_rank(nodes: &[Node], numbers: &[u32], ranks: &[u32], at: usize) -> u32
     match node_or_zero(nodes, at) {
         Node::Const(_) | Node::Input(_) => 0,
         Node::State(p) => number_or_zero(numbers, p as usize),
-        Node::Array(p) => number_or_zero(numbers, p as usize),
+        Node::Array { first, .. } => number_or_zero(numbers, first as usize),
         Node::Un(_, a) => rank_before(nodes, numbers, ranks, at, a.node),
         Node::Slice(a, _, _) => rank_before(nodes, numbers, ranks, at, a.node),
         Node::Uext(a, _) => rank_before(nodes, numbers, ranks, at, a.node),

@@ -16,6 +16,10 @@ fn arg(node: u32) -> Arg {
     }
 }
 
+fn array(first: u32, words: u32) -> Node {
+    Node::Array { first, words }
+}
+
 fn complement(node: u32) -> Arg {
     Arg {
         node,
@@ -27,7 +31,7 @@ fn complement(node: u32) -> Arg {
 fn arrays_are_read_through_writes(rt: HostRuntime) {
     let state = [byte(10), byte(11), byte(12), byte(13)];
     let nodes = [
-        Node::Array(0),
+        array(0, 4),
         Node::Const(word_or(2, 1)),
         Node::Const(byte(99)),
         Node::Write(0, arg(1), arg(2)),
@@ -37,27 +41,29 @@ fn arrays_are_read_through_writes(rt: HostRuntime) {
         Node::Read(5, arg(1)),
         Node::Read(6, arg(1)),
         Node::Read(6, complement(1)),
+        array(0, 2),
+        Node::Read(10, complement(1)),
     ];
-    let mut room = [zero(); 10];
+    let mut room = [zero(); 12];
     fill(&nodes, &[], &state, &mut room);
-    let mut out = [zero(); 3];
+    let mut out = [zero(); 4];
     arg_words(
         &nodes,
         &[],
         &state,
         &room,
-        &[arg(7), arg(8), complement(9)],
+        &[arg(7), arg(8), complement(9), arg(11)],
         &mut out,
     );
-    assert_eq!(rt; out, [byte(11), byte(99), byte(243)]);
+    assert_eq!(rt; out, [byte(11), byte(99), byte(243), zero()]);
 }
 
 #[test]
 fn cells_take_each_others_old_words(rt: HostRuntime) {
     let mut state = [byte(1), byte(2), byte(3), byte(4), byte(7)];
     let nodes = [
-        Node::Array(0),
-        Node::Array(2),
+        array(0, 2),
+        array(2, 2),
         bit(0),
         Node::Const(byte(50)),
         Node::Write(1, arg(2), arg(3)),
@@ -87,7 +93,7 @@ fn cells_take_each_others_old_words(rt: HostRuntime) {
 fn the_newest_write_wins(rt: HostRuntime) {
     let mut state = [byte(1), byte(2)];
     let nodes = [
-        Node::Array(0),
+        array(0, 2),
         bit(1),
         Node::Const(byte(8)),
         Node::Const(byte(9)),

@@ -99,7 +99,7 @@ told-more all before l old new h r t e f = record { each = each } where
   ]
 
 -- what holds of all lines holds of the earlier ones
-ruled-down : (lines : List Line) (i j : ℕ) → i ≤ j → j ≤ length lines → AreRuled (earlier lines j) → AreRuled (earlier lines i)
+pub ruled-down : (lines : List Line) (i j : ℕ) → i ≤ j → j ≤ length lines → AreRuled (earlier lines j) → AreRuled (earlier lines i)
 ruled-down lines i zero le within r = let e : i ≡ zero = omega arith in subst (λ z. AreRuled (earlier lines z)) (sym e) r
 ruled-down lines i (suc j) le within r =
     let last = slice_get-some lines j (omega arith) in

@@ -7,3 +7,4 @@ pub mod Adding
 pub mod Earlier
 pub mod Feeding
 pub mod Shaped
+pub mod Limits

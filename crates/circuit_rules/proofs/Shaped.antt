@@ -133,6 +133,16 @@ word-widths before n w r h = (has-widths before (Words w) (shape_of before n) (s
 pub array-widths : (before : List Line) (n i e : ℕ) → AreRuled before → sort_of before n ≡ Some (Arrays i e) → (sort_width before n ≡ e) × (sort_index before n ≡ Some i)
 array-widths before n i e r h = (has-widths before (Arrays i e) (shape_of before n) (sym h ∙ (all-shaped before r n).sort)).arrays i e refl
 
+no-shape : (before : List Line) (o : Option Shape) → None ≡ shaped before o → (words_width before o ≡ 0) × (indices_width before o ≡ None)
+no-shape before None h = (refl, refl)
+no-shape before (Some (shape.Bitvec w)) h = cc
+no-shape before (Some (shape.Array i e)) h = cc
+no-shape before (Some _) h = (refl, refl)
+
+-- a number that names no sort has no widths
+pub no-widths : (before : List Line) (n : ℕ) → AreRuled before → sort_of before n ≡ None → (sort_width before n ≡ 0) × (sort_index before n ≡ None)
+no-widths before n r h = no-shape before (shape_of before n) (sym h ∙ (all-shaped before r n).sort)
+
 -- the sort of a node, by its shape and all lines
 abbrev named : List Line → Option Shape → Option SortOf
 named before None = None

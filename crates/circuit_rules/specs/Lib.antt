@@ -7,3 +7,4 @@ pub mod Whole
 pub mod Entries
 pub mod Fed
 pub mod Examples
+pub mod Literals

@@ -5,7 +5,7 @@ ghost use Rattle.std.specs.Str.Parse.{digits_value};
 ghost use Rattle.circuit_rules.specs.Constants.{all_digits, writes_up_to, is_unsigned, is_decimal};
 
 /// What a byte is worth as a digit, or 36 where it is none.
-fn digit(byte: u8) -> u8
+pub fn digit(byte: u8) -> u8
     ensures { result ≡ digit_value byte }
 {
     match byte {
@@ -70,7 +70,7 @@ fn writes_up_to(base: u8, most: u128, digits: &[u8]) -> bool
 }
 
 /// The greatest word of a width.
-fn greatest(width: u32) -> u128
+pub fn greatest(width: u32) -> u128
     requires { width ≤ 128 }
     ensures { result ≡ 2 ^ width - 1 }
 {

@@ -8,6 +8,7 @@ mod entry;
 mod examples;
 mod laws;
 mod lines;
+mod literals;
 mod operators;
 mod rules;
 mod sort;
@@ -21,4 +22,5 @@ pub use examples::{
 };
 pub use laws::{nodes_have_widths, sorts_have_widths};
 pub use lines::Lines;
+pub use literals::literal;
 pub use sort::SortOf;

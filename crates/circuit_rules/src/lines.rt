@@ -290,7 +290,7 @@ impl Lines {
     }
 
     /// Whether the state with a number has an `init`.
-    pub(crate) fn has_init(&self, number: u64) -> bool
+    pub fn has_init(&self, number: u64) -> bool
         ensures { result ≡ is_some (init_of (reverse self.now) number) }
     {
         match self.entry(number) {
@@ -300,7 +300,7 @@ impl Lines {
     }
 
     /// Whether the state with a number has a `next`.
-    pub(crate) fn has_next(&self, number: u64) -> bool
+    pub fn has_next(&self, number: u64) -> bool
         ensures { result ≡ is_some (next_of (reverse self.now) number) }
     {
         match self.entry(number) {

@@ -3,17 +3,21 @@ use Rattle.std.proofs.Common.{◌≡◌, ℕ, suc, ◌<◌, ◌==◌, ◌&&◌, 
 use Rattle.std.specs.Cmp.Lexicographic.{pointwise, bytes_decides}
 use Rattle.knox_words.specs.Lists.{fit}
 use Rattle.knox_theory.proofs.Basics.{and-both}
-use Rattle.knox_circuit.specs.Circuit.{Circuit, cells_of, input_widths, output_widths}
+use Rattle.knox_circuit.specs.Circuit.{Circuit}
+use Rattle.circuit_meaning.specs.Circuit.{cells_of, state_widths, input_widths, output_widths}
+use Rattle.circuit_meaning.specs.Rom.{rom_words, agree}
 use Rattle.knox_lang.specs.declared.parts.OpHead.{OpHead}
 use Rattle.knox_lang.specs.declared.parts.SpecParts.{SpecParts}
 use Rattle.knox_lang.specs.declared.parts.DriverParts.{DriverParts}
 use Rattle.knox_lang.specs.declared.parts.EmuParts.{EmuParts}
 use Rattle.knox_lang.specs.Fitting.{fits_driver}
 use Rattle.knox_lang.specs.WellFormed.{word_widths}
-use Rattle.knox_lang.proofs.WidthLemmas.{and_second}
+use Rattle.knox_lang.proofs.WidthLemmas.{and_first, and_second}
 use Rattle.driver_machine.specs.Lawful.{HasOp, HasDriver}
 use Rattle.emu_machine.specs.Fits.{same_head, same_heads, outputs, fits_device}
+use Rattle.device_design.specs.Roms.{known_fit}
 use Rattle.device_design.specs.Meaning.{head_args, device_of, design_of}
+use Rattle.device_design.proofs.RomLemmas.{part-fits, fits-widths, fits-agree}
 use Rattle.device_design.proofs.AskingLemmas.{heads-at}
 use Rattle.device_design.proofs.DesignLemmas.{have-widths, idle-fits, there-is-one, fit-together}
 
@@ -43,12 +47,14 @@ has-op s d k same lt = by_head (slice_get d.ops k) refl
         let r = heads-at d.ops s.ops k h same at in
         record { head = h; at = at; widths = sym r.args ∙ ap (λ o. head_args o) (sym r.at) }
 
-pub has-driver : (c : Circuit) (s : SpecParts) (d : DriverParts) (e : EmuParts) → fits_device c s d e ≡ true → HasDriver c.lines d (design_of c s d e)
+pub has-driver : (c : Circuit) (s : SpecParts) (d : DriverParts) (e : EmuParts) → known_fit (rom_words c.lines) (state_widths (cells_of c.lines)) ≡ true → fits_device c s d e ≡ true → HasDriver c.lines d (design_of c s d e)
 unfolding design_of device_of
-has-driver c s d e fits = record {
+has-driver c s d e known fits = record {
   ops = λ o lt. has-op s d o (fit-together c s d e fits).driven lt;
-  cells = λ ws f. f.taken;
-  of_cells = λ ws f. record { taken = f; whole = refl };
+  cells = λ ws f.
+      and-both (fit (state_widths (cells_of c.lines)) ws) (agree (rom_words c.lines) ws) (fits-widths (rom_words c.lines) (state_widths (cells_of c.lines)) ws known f) (fits-agree (rom_words c.lines) (state_widths (cells_of c.lines)) ws known f);
+  of_cells = λ ws f.
+      part-fits (rom_words c.lines) (state_widths (cells_of c.lines)) ws (and_first (fit (state_widths (cells_of c.lines)) ws) (agree (rom_words c.lines) ws) f) (and_second (fit (state_widths (cells_of c.lines)) ws) (agree (rom_words c.lines) ws) f);
   drive = λ o args cells. refl;
   start = λ o args cells. refl;
   move = λ x. refl;

@@ -1,5 +1,6 @@
 pub mod DialogueLemmas
 pub mod AskingLemmas
 pub mod PowerLemmas
+pub mod RomLemmas
 pub mod DesignLemmas
 pub mod DriverLemmas

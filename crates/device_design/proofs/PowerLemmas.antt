@@ -1,21 +1,21 @@
 -- An emulator's words fit after power-on, whatever the noise words are.
-use Rattle.std.proofs.Common.{◌≡◌, ℕ, ◌==◌, List, [], ◌∷◌, ◌++◌, Bool, true, false, is_none, refl, ap, sym, ◌∙◌, subst, Option, Some, None, length, replicate, eqb-true, if◌then◌else◌}
-use Rattle.std.specs.List.{list_all}
+use Rattle.std.proofs.Common.{◌≡◌, ℕ, ◌==◌, ◌^◌, List, [], ◌∷◌, ◌++◌, Bool, true, false, refl, ap, sym, ◌∙◌, subst, Option, Some, None, length, replicate, eqb-true, if◌then◌else◌}
 use Rattle.knox_words.specs.Lists.{Words, fit, are_widths}
-use Rattle.knox_circuit.specs.declared.circuit.Cell.{Cell}
+use Rattle.circuit_meaning.specs.declared.port.Cell.{Cell}
 use Rattle.circuit_lines.specs.Nodes.{size}
-use Rattle.knox_circuit.specs.Circuit.{state_widths}
+use Rattle.circuit_meaning.specs.Circuit.{state_widths}
 use Rattle.knox_lang.specs.declared.expr.Space.TheVariants.{Own, Local, Output, Noise, Copy}
 use Rattle.knox_lang.specs.declared.parts.Field.{Field}
 use Rattle.knox_lang.specs.declared.parts.EmuParts.{EmuParts}
 use Rattle.knox_lang.specs.Operation.{no_queries}
 use Rattle.knox_lang.specs.Typing.{funs_fit, SpacesFit}
-use Rattle.knox_lang.specs.WellFormed.{word_widths, local_widths, field_widths, word_count, fields_fit, no_leave, statements_fit, power_widths, emulator_fits}
+use Rattle.knox_lang.specs.WellFormed.{word_widths, local_widths, field_widths, word_count, index_fits, fields_fit, no_leave, statements_fit, power_widths, emulator_fits}
 use Rattle.knox_lang.proofs.WidthLemmas.{and_first, and_second, funs-give}
 use Rattle.knox_lang.proofs.StmtLemmas.{stmts-keep}
 use Rattle.knox_lang.proofs.OperationLemmas.{no-answers, start-fit}
 use Rattle.cell_fields.specs.Fields.{same_index, same_field, cell_field, name_cells}
 use Rattle.emu_machine.specs.Emulator.{power_spaces, emulator_after_power}
+use Rattle.emu_machine.specs.Fits.{indices_fit}
 use Rattle.device_design.proofs.AskingLemmas.{init-fits}
 
 -- the words that the body `power` sees at first
@@ -41,34 +41,27 @@ power-fits e noise ok alone n =
     (stmts-keep (Unit {0}) no_queries e.funs (power_widths e) no_leave (λ (a : Unit {0}). Unit {0}) give no-answers e.power.stmts [] [] (power_spaces e noise, tt) refl stmts
     (record { spaces = power-spaces-fit e noise alone init n locals; asked = tt })).spaces Own
 
--- the widths of fields that name cells of one word each
+-- the widths of fields that name cells
 
-single : (i j : Option ℕ) → same_index i j ≡ true → is_none j ≡ true → word_count i ≡ 1
-single None j h n = refl
-single (Some i) None h n = cc
-single (Some i) (Some j) h n = cc
+-- a field whose index is a cell's has the cell's number of words
+same-size : (i j : Option ℕ) → same_index i j ≡ true → index_fits i ≡ true → word_count i ≡ size j
+same-size None None h n = refl
+same-size None (Some j) h n = cc
+same-size (Some i) None h n = cc
+same-size (Some i) (Some j) h n = ap (λ (b : Bool). if b then 2 ^ i else 0) n ∙ ap (λ k. 2 ^ k) (eqb-true i j h)
 
-named-width : (f : Field) (c : Cell) → same_field f (cell_field c) ≡ true → is_none c.index ≡ true → (word_count f.index ≡ 1) × (f.width ≡ c.width)
-named-width f c h n =
+named-words : (f : Field) (c : Cell) → same_field f (cell_field c) ≡ true → index_fits f.index ≡ true → replicate (word_count f.index) f.width ≡ replicate (size c.index) c.width
+named-words f c h n =
     let three = and_first _ (f.first == c.first) h in
     let index : same_index f.index c.index ≡ true = and_second _ (same_index f.index c.index) three in
     let width : f.width == c.width ≡ true = and_second _ (f.width == c.width) (and_first _ (same_index f.index c.index) three) in
-    (single f.index c.index index n, eqb-true f.width c.width width)
+    ap (λ k. replicate k f.width) (same-size f.index c.index index n) ∙ ap (λ w. replicate (size c.index) w) (eqb-true f.width c.width width)
 
-flat-cell : (c : Cell) → is_none c.index ≡ true → (cs : List Cell) → state_widths (c ∷ cs) ≡ c.width ∷ state_widths cs
-flat-cell c n cs = by_index c.index n where
-  by_index : (i : Option ℕ) → is_none i ≡ true → replicate (size i) c.width ++ state_widths cs ≡ c.width ∷ state_widths cs
-  by_index None n = refl
-  by_index (Some i) n = cc
-
-pub names-widths : (fs : List Field) (cs : List Cell) → name_cells fs cs ≡ true → list_all (λ (c : Cell). is_none c.index) cs ≡ true → field_widths fs ≡ state_widths cs
+pub names-widths : (fs : List Field) (cs : List Cell) → name_cells fs cs ≡ true → indices_fit fs ≡ true → field_widths fs ≡ state_widths cs
 names-widths [] [] h n = refl
 names-widths [] (c ∷ cs) h n = cc
 names-widths (f ∷ fs) [] h n = cc
 names-widths (f ∷ fs) (c ∷ cs) h n =
-    let own = named-width f c (and_first (same_field f (cell_field c)) _ h) (and_first (is_none c.index) _ n) in
-    let rest = names-widths fs cs (and_second (same_field f (cell_field c)) _ h) (and_second (is_none c.index) _ n) in
-    ap (λ k. replicate k f.width ++ field_widths fs) own.0
-    ∙ (ap (λ w. w ∷ field_widths fs) own.1
-    ∙ (ap (λ ws. c.width ∷ ws) rest
-    ∙ sym (flat-cell c (and_first (is_none c.index) _ n) cs)))
+    let own = named-words f c (and_first (same_field f (cell_field c)) _ h) (and_first (index_fits f.index) _ n) in
+    let rest = names-widths fs cs (and_second (same_field f (cell_field c)) _ h) (and_second (index_fits f.index) _ n) in
+    ap (λ ws. ws ++ field_widths fs) own ∙ ap (λ ws. replicate (size c.index) c.width ++ ws) rest

@@ -1,1 +1,2 @@
+pub mod Roms
 pub mod Meaning

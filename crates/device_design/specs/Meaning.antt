@@ -1,10 +1,14 @@
 -- The device that a circuit, a specification, a driver and an emulator are, for the two worlds; and its design, for scripts.
 -- The project's own. Everybody must believe `device_of`: it is what the parts of a yes are. Nobody has to believe `design_of` for a yes.
-use Rattle.std.specs.Prelude.{ℕ, List, [], length, slice_get, Option, Some, None}
+use Rattle.std.specs.Prelude.{ℕ, List, [], length, slice_get, Bool, Option, Some, None}
+use Rattle.knox_words.specs.Bits.{Bits}
 use Rattle.knox_theory.specs.Device.{Device}
-use Rattle.knox_theory.specs.Design.{Part, Design}
-use Rattle.knox_circuit.specs.Circuit.{Circuit, cells_of, output_words, state_after_tick, state_widths, input_widths}
-use Rattle.knox_circuit.specs.Power.{factory_state, state_after_power, states_of, noise_widths, persistent_words, persistent_widths, spread_words}
+use Rattle.knox_theory.specs.Design.{Design}
+use Rattle.circuit_lines.specs.declared.line.Line.{Line}
+use Rattle.knox_circuit.specs.Circuit.{Circuit}
+use Rattle.circuit_meaning.specs.Circuit.{cells_of, output_words, state_after_tick, state_widths, input_widths}
+use Rattle.circuit_meaning.specs.Power.{factory_state, state_after_power, states_of, noise_widths, persistent_words, persistent_widths, spread_words}
+use Rattle.circuit_meaning.specs.Rom.{rom_words}
 use Rattle.knox_lang.specs.declared.parts.OpHead.{OpHead}
 use Rattle.knox_lang.specs.declared.parts.SpecParts.{SpecParts}
 use Rattle.knox_lang.specs.declared.parts.DriverParts.{DriverParts}
@@ -15,6 +19,7 @@ use Rattle.driver_machine.specs.Drive.{drive}
 use Rattle.driver_machine.specs.Left.{Left, start, ended, reply}
 use Rattle.driver_machine.specs.Moves.{move, move_tests, ticks_left}
 use Rattle.driver_machine.specs.Fits.{fits_config}
+use Rattle.device_design.specs.Roms.{rom_part, kept_roms}
 use Rattle.emu_machine.specs.Emulator.{emulator_outputs, emulator_after_power}
 use Rattle.emu_machine.specs.Dialogue.{tick_dialogue}
 
@@ -52,20 +57,20 @@ device_of c s d e = record {
   emu_tick = λ emu copy ins. tick_dialogue e emu ins;
 }
 
--- words all of which are taken, a ROM's too
-abbrev pub all_taken : List ℕ → Part
-all_taken ws = record { widths = ws; fill = λ words. words; strip = λ words. words }
+-- what is known of the persistent words
+abbrev pub persistent_roms : List Line → List Bool → List (Option Bits)
+persistent_roms lines keep = kept_roms (cells_of lines) keep (rom_words lines)
 
--- the design: the widths of all words, and the driver as what is left of its body, which moves from tick to tick
+-- the design: the widths of all words, of which the ROM words are never taken, and the driver as what is left of its body, which moves from tick to tick
 unfoldable pub design_of : Circuit → SpecParts → DriverParts → EmuParts → Design Left
 design_of c s d e = record {
   device = device_of c s d e;
   fields = word_widths s.init;
   result = λ o. head_result (slice_get s.ops o);
-  cells = all_taken (state_widths (cells_of c.lines));
-  persistent = all_taken (persistent_widths (cells_of c.lines) d.keep);
+  cells = rom_part (rom_words c.lines) (state_widths (cells_of c.lines));
+  persistent = rom_part (persistent_roms c.lines d.keep) (persistent_widths (cells_of c.lines) d.keep);
   emu = word_widths e.init;
-  copy = all_taken [];
+  copy = rom_part [] [];
   kept = [];
   start = λ o args cells. start d o args cells;
   move = λ x. move c.lines d x;

@@ -1,10 +1,13 @@
 //! Laws of devices, as functions that do nothing.
-ghost use Rattle.std.specs.Prelude.{◌≡◌, List, [], true, false, length};
+ghost use Rattle.std.specs.Prelude.{◌≡◌, List, [], Bool, true, false, length};
 ghost use Rattle.knox_words.specs.Bits.{Bits};
 ghost use Rattle.knox_words.specs.Lists.{fit};
 ghost use Rattle.knox_theory.specs.Device.{answered};
 ghost use Rattle.knox_theory.specs.Lawful.{FitsAsking, IsDesign, IsWireDesign};
-ghost use Rattle.knox_circuit.specs.Circuit.{Circuit as Lines, cells_of, input_widths, output_widths};
+ghost use Rattle.knox_circuit.specs.Circuit.{Circuit as Lines};
+ghost use Rattle.circuit_meaning.specs.Circuit.{cells_of, state_widths, input_widths, output_widths};
+ghost use Rattle.circuit_meaning.specs.Power.{persistent_widths};
+ghost use Rattle.circuit_meaning.specs.Rom.{rom_words};
 ghost use Rattle.knox_lang.specs.declared.parts.SpecParts.{SpecParts};
 ghost use Rattle.knox_lang.specs.declared.parts.DriverParts.{DriverParts};
 ghost use Rattle.knox_lang.specs.declared.parts.EmuParts.{EmuParts};
@@ -14,7 +17,8 @@ ghost use Rattle.driver_machine.specs.Lawful.{HasDriver};
 ghost use Rattle.emu_machine.specs.Emulator.{emulator_after_tick, fields_after_tick};
 ghost use Rattle.emu_machine.specs.Dialogue.{tick_dialogue};
 ghost use Rattle.emu_machine.specs.Fits.{same_heads, fits_device};
-ghost use Rattle.device_design.specs.Meaning.{device_of, design_of};
+ghost use Rattle.device_design.specs.Meaning.{persistent_roms, device_of, design_of};
+ghost use Rattle.device_design.specs.Roms.{known_fit};
 
 use emu_machine::Device;
 use knox_circuit::Circuit;
@@ -45,13 +49,25 @@ fn words_have_widths(words: &[Word])
     }
 }
 
+/// What is known of the device words has their widths, one for one, and so has what is known of the
+/// persistent words.
+pub fn rom_words_have_widths(c: &Circuit)
+    ensures cells { known_fit (rom_words c.now.lines) (state_widths (cells_of c.now.lines)) ≡ true }
+    ensures kept { (keep : List Bool) → known_fit (persistent_roms c.now.lines keep) (persistent_widths (cells_of c.now.lines) keep) ≡ true }
+{
+    knox_circuit::circuits_have_widths(c);
+    knox_circuit::circuits_keep_widths(c);
+    knox_circuit::circuits_keep_rom_words(c);
+}
+
 /// Parts that fit each other make a design that is lawful where its host is never attached.
 pub fn parts_make_designs(c: &Circuit)
     ensures { (s : SpecParts) (d : DriverParts) (e : EmuParts) → spec_fits s ≡ true → emulator_fits e ≡ true → fits_device c.now s d e ≡ true → fit (word_widths d.idle) d.idle ≡ true → IsWireDesign (design_of c.now s d e) }
 {
     knox_circuit::circuits_have_widths(c);
     knox_circuit::circuits_keep_widths(c);
-    knox_circuit::noise_cells_are_single_words(c);
+    knox_circuit::circuits_keep_rom_words(c);
+    rom_words_have_widths(c);
     knox_circuit::power_keeps_persistent_words(c);
     knox_circuit::persistent_words_are_spread(c);
 }
@@ -61,6 +77,7 @@ pub fn devices_have_drivers(dev: &Device)
     ensures driver { fits_driver (input_widths dev.now.circuit.lines) (output_widths dev.now.circuit.lines) (length (cells_of dev.now.circuit.lines)) dev.now.driver ≡ true }
     ensures design { HasDriver dev.now.circuit.lines dev.now.driver (design_of dev.now.circuit dev.now.spec dev.now.driver dev.now.emulator) }
 {
+    rom_words_have_widths(&dev.circuit);
     words_have_widths(dev.driver.idle());
 }
 

@@ -7,5 +7,5 @@ mod laws;
 
 pub use laws::{
     devices_are_designs, devices_have_drivers, dialogue_is_the_tick, parts_make_designs,
-    queries_are_of_operations,
+    queries_are_of_operations, rom_words_have_widths,
 };

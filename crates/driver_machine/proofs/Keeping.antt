@@ -5,7 +5,9 @@ use Rattle.knox_words.specs.Lists.{Words, fit, fits}
 use Rattle.knox_words.proofs.Lists.{fit-slice_set}
 use Rattle.knox_theory.specs.Design.{Config}
 use Rattle.circuit_lines.specs.declared.line.Line.{Line}
-use Rattle.knox_circuit.specs.Circuit.{cells_of, state_widths, input_widths, output_words, state_after_tick}
+use Rattle.circuit_meaning.specs.Circuit.{cells_of, state_widths, input_widths, output_widths, output_words, state_after_tick}
+use Rattle.circuit_meaning.specs.Rom.{rom_words, is_known, agree, fits_state}
+use Rattle.circuit_meaning.specs.States.{words_in}
 use Rattle.knox_lang.specs.declared.expr.Space.{Space}
 use Rattle.knox_lang.specs.declared.expr.Space.TheVariants.{Own, Arg, Local, Bound, Input, Output, Noise, Spec, Device, Emu, Copy, Taken}
 use Rattle.knox_lang.specs.declared.expr.Slot.{Slot}
@@ -43,19 +45,49 @@ local-put sp Emu k w = refl
 local-put sp Copy k w = refl
 local-put sp Taken k w = refl
 
--- what a circuit owes: the widths of its outputs and of its cells after a tick
-pub record KeepsWidths (lines : List Line) (outs : List ℕ) : Type 0 where
-  pub shows : (cells ins : Words) → fit (state_widths (cells_of lines)) cells ≡ true → fit (input_widths lines) ins ≡ true → fit outs (output_words lines cells ins) ≡ true
-  pub ticks : (cells ins : Words) → fit (state_widths (cells_of lines)) cells ≡ true → fit (input_widths lines) ins ≡ true → fit (state_widths (cells_of lines)) (state_after_tick lines cells ins) ≡ true
+-- what a circuit owes: its outputs have their widths, and its cells after a tick are device words again
+pub record KeepsStates (lines : List Line) (outs : List ℕ) : Type 0 where
+  pub shows : (cells ins : Words) → fits_state lines cells ≡ true → fit (input_widths lines) ins ≡ true → fit outs (output_words lines cells ins) ≡ true
+  pub ticks : (cells ins : Words) → fits_state lines cells ≡ true → fit (input_widths lines) ins ≡ true → fits_state lines (state_after_tick lines cells ins) ≡ true
+
+-- by the widths and by the ROM words
+pub keeps-states : (lines : List Line) →
+    ((cells ins : Words) → fit (state_widths (cells_of lines)) cells ≡ true → fit (input_widths lines) ins ≡ true → fit (output_widths lines) (output_words lines cells ins) ≡ true) →
+    ((cells ins : Words) → fit (state_widths (cells_of lines)) cells ≡ true → fit (input_widths lines) ins ≡ true → fit (state_widths (cells_of lines)) (state_after_tick lines cells ins) ≡ true) →
+    ((cells ins : Words) → length cells ≡ words_in (cells_of lines) → agree (rom_words lines) cells ≡ true → agree (rom_words lines) (state_after_tick lines cells ins) ≡ true) →
+    ((cells : Words) → fit (state_widths (cells_of lines)) cells ≡ true → length cells ≡ words_in (cells_of lines)) → KeepsStates lines (output_widths lines)
+keeps-states lines shows ticks known count = record {
+  shows = λ cells ins f g. shows cells ins (and_first (fit (state_widths (cells_of lines)) cells) (agree (rom_words lines) cells) f) g;
+  ticks = λ cells ins f g.
+      let widths = and_first (fit (state_widths (cells_of lines)) cells) (agree (rom_words lines) cells) f in
+      both (fit (state_widths (cells_of lines)) (state_after_tick lines cells ins)) (agree (rom_words lines) (state_after_tick lines cells ins)) (ticks cells ins widths g)
+      (known cells ins (count cells widths) (and_second (fit (state_widths (cells_of lines)) cells) (agree (rom_words lines) cells) f));
+}
+
+-- another word at a place where none is known
+agree-slice_set : (known : List (Option Bits)) (ws : Words) (k : ℕ) (w : Bits) → slice_get known k ≡ Some None → agree known ws ≡ true → agree known (slice_set ws k w) ≡ true
+agree-slice_set [] ws k w at h = refl
+agree-slice_set (o ∷ os) [] k w at h = cc
+agree-slice_set (None ∷ os) (x ∷ ws) zero w at h = h
+agree-slice_set (Some v ∷ os) (x ∷ ws) zero w at h = cc
+agree-slice_set (o ∷ os) (x ∷ ws) (suc k) w at h =
+    both (is_known o x) (agree os (slice_set ws k w)) (and_first (is_known o x) (agree os ws) h) (agree-slice_set os ws k w at (and_second (is_known o x) (agree os ws) h))
+
+pub fits_state-set : (lines : List Line) (cells : Words) (k : ℕ) (w : Bits) → slice_get (rom_words lines) k ≡ Some None → fits (slice_index (state_widths (cells_of lines)) k) w ≡ true → fits_state lines cells ≡ true → fits_state lines (slice_set cells k w) ≡ true
+fits_state-set lines cells k w at f h =
+    let widths = fit (state_widths (cells_of lines)) cells in
+    let known = agree (rom_words lines) cells in
+    both (fit (state_widths (cells_of lines)) (slice_set cells k w)) (agree (rom_words lines) (slice_set cells k w)) (fit-slice_set (state_widths (cells_of lines)) cells k w f (and_first widths known h))
+    (agree-slice_set (rom_words lines) cells k w at (and_second widths known h))
 
 pub record RunFits (lines : List Line) (b : Body) (run : Run) : Type 0 where
-  pub cells : fit (state_widths (cells_of lines)) run.cells ≡ true
+  pub cells : fits_state lines run.cells ≡ true
   pub inputs : fit (input_widths lines) run.inputs ≡ true
   pub locals : fit (local_widths b) run.locals ≡ true
 
 pub run_fits-parts : (lines : List Line) (b : Body) (run : Run) → run_fits lines b run ≡ true → RunFits lines b run
 run_fits-parts lines b run h =
-    let x = fit (state_widths (cells_of lines)) run.cells in
+    let x = fits_state lines run.cells in
     let y = fit (input_widths lines) run.inputs in
     let z = fit (local_widths b) run.locals in
     record { cells = and_first x (y && z) h; inputs = and_first y z (and_second x (y && z) h); locals = and_second y z (and_second x (y && z) h) }
@@ -64,10 +96,10 @@ pub run_fits-all : (lines : List Line) (b : Body) (run : Run) → RunFits lines 
 run_fits-all lines b run r =
     let y = fit (input_widths lines) run.inputs in
     let z = fit (local_widths b) run.locals in
-    both (fit (state_widths (cells_of lines)) run.cells) (y && z) r.cells (both y z r.inputs r.locals)
+    both (fits_state lines run.cells) (y && z) r.cells (both y z r.inputs r.locals)
 
 module _ (lines : List Line) (d : DriverParts) (h : OpHead) (b : Body) (args : Words)
-    (give : FunsGive d.funs (length d.funs)) (keeps : KeepsWidths lines d.outs)
+    (give : FunsGive d.funs (length d.funs)) (keeps : KeepsStates lines d.outs)
     (ins : word_widths d.idle ≡ input_widths lines) (args_fit : fit (arg_widths h) args ≡ true) where
   abbrev ws : Widths
   ws = seen_widths d h b
@@ -223,7 +255,7 @@ module _ (lines : List Line) (d : DriverParts) (h : OpHead) (b : Body) (args : W
       arrived-fits result run (next g items run) (and_first (result_fits d.funs ws h.result result) (items_fit d ws items) e)
       (next-fits items run (and_second (result_fits d.funs ws h.result result) (items_fit d ws items) e) r) r
 
-module _ (lines : List Line) (d : DriverParts) (h : OpHead) (b : Body) (give : FunsGive d.funs (length d.funs)) (keeps : KeepsWidths lines d.outs) (ins : word_widths d.idle ≡ input_widths lines) where
+module _ (lines : List Line) (d : DriverParts) (h : OpHead) (b : Body) (give : FunsGive d.funs (length d.funs)) (keeps : KeepsStates lines d.outs) (ins : word_widths d.idle ≡ input_widths lines) where
   left-step : (left : Left) (run : Run) → left_fits d h b left ≡ true → RunFits lines b run →
       (left_fits d h b (step_in lines d left run).left ≡ true) × RunFits lines b (run_of (step_in lines d left run))
   left-step (Over x) run e r = (e, r)

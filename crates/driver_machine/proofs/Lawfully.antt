@@ -7,7 +7,8 @@ use Rattle.knox_words.proofs.Lists.{fits-width, fit-slice_set}
 use Rattle.knox_theory.specs.Design.{Config, Design}
 use Rattle.knox_theory.specs.Lawful.{IsDriver}
 use Rattle.circuit_lines.specs.declared.line.Line.{Line}
-use Rattle.knox_circuit.specs.Circuit.{cells_of, state_widths, input_widths, output_widths}
+use Rattle.circuit_meaning.specs.Circuit.{cells_of, state_widths, input_widths, output_widths}
+use Rattle.circuit_meaning.specs.Rom.{rom_words, fits_state}
 use Rattle.knox_lang.specs.declared.parts.OpHead.{OpHead}
 use Rattle.knox_lang.specs.declared.parts.Body.{Body}
 use Rattle.knox_lang.specs.declared.parts.DriverParts.{DriverParts}
@@ -25,7 +26,7 @@ use Rattle.driver_machine.specs.Means.{means}
 use Rattle.driver_machine.specs.Lawful.{HasOp, HasDriver}
 use Rattle.driver_machine.proofs.Meaning.{start-means}
 use Rattle.driver_machine.proofs.Moving.{ended-move, ended-tests, finish-over, finish-means}
-use Rattle.driver_machine.proofs.Keeping.{KeepsWidths, run_fits-parts, run_fits-all, body-step}
+use Rattle.driver_machine.proofs.Keeping.{KeepsStates, fits_state-set, run_fits-parts, run_fits-all, body-step}
 use Rattle.driver_machine.proofs.Items.{both, on-fits}
 
 widths-of : (ws : List ℕ) (as' : Words) → fit ws as' ≡ true → word_widths as' ≡ ws
@@ -40,12 +41,12 @@ widths-of (w ∷ ws) (a ∷ as') h =
 -- what a driver of a circuit knows
 pub record Known (lines : List Line) (d : DriverParts) : Type 0 where
   pub give : FunsGive d.funs (length d.funs)
-  pub keeps : KeepsWidths lines d.outs
+  pub keeps : KeepsStates lines d.outs
   pub ins : word_widths d.idle ≡ input_widths lines
   pub idle : fit (input_widths lines) d.idle ≡ true
   pub bodies : ops_fit d.funs [] d.outs (driver_leave d) d.ops d.bodies ≡ true
 
-pub known : (lines : List Line) (d : DriverParts) → driver_fits d ≡ true → fits_driver (input_widths lines) (output_widths lines) (length (cells_of lines)) d ≡ true → KeepsWidths lines (output_widths lines) → Known lines d
+pub known : (lines : List Line) (d : DriverParts) → driver_fits d ≡ true → fits_driver (input_widths lines) (output_widths lines) (length (cells_of lines)) d ≡ true → KeepsStates lines (output_widths lines) → Known lines d
 known lines d ok fit_it keeps =
     let idle_fit = fit (input_widths lines) d.idle in
     let outs_fit = pointwise (λ v w. v == w) (output_widths lines) d.outs in
@@ -57,22 +58,22 @@ known lines d ok fit_it keeps =
     let rest = and_second (are_widths d.outs) (funs && bodies) ok in
     record {
       give = funs-give d.funs (length d.funs) (and_first funs bodies rest);
-      keeps = subst (λ (os : List ℕ). KeepsWidths lines os) outs keeps;
+      keeps = subst (λ (os : List ℕ). KeepsStates lines os) outs keeps;
       ins = widths-of (input_widths lines) d.idle idle;
       idle = idle;
       bodies = and_second funs bodies rest;
     }
 
 module _ (lines : List Line) (d : DriverParts) where
-  options-word : (o : Option OpHead) (p : Option Body) (c : Config Left) (j : ℕ) (w : Bits) → fits (slice_index (state_widths (cells_of lines)) j) w ≡ true → fits_body lines d o p c ≡ true →
+  options-word : (o : Option OpHead) (p : Option Body) (c : Config Left) (j : ℕ) (w : Bits) → slice_get (rom_words lines) j ≡ Some None → fits (slice_index (state_widths (cells_of lines)) j) w ≡ true → fits_body lines d o p c ≡ true →
       fits_body lines d o p (record c { cells = slice_set c.cells j w }) ≡ true
-  options-word None p c j w f e = cc
-  options-word (Some h) None c j w f e = cc
-  options-word (Some h) (Some b) c j w f e =
+  options-word None p c j w at f e = cc
+  options-word (Some h) None c j w at f e = cc
+  options-word (Some h) (Some b) c j w at f e =
       let r = run_fits-parts lines b (run_of c) (and_first (run_fits lines b (run_of c)) (left_fits d h b c.left) e) in
       let c' : Config Left = record c { cells = slice_set c.cells j w } in
       both (run_fits lines b (run_of c')) (left_fits d h b c.left)
-      (run_fits-all lines b (run_of c') (record { cells = fit-slice_set (state_widths (cells_of lines)) c.cells j w f r.cells; inputs = r.inputs; locals = r.locals }))
+      (run_fits-all lines b (run_of c') (record { cells = fits_state-set lines c.cells j w at f r.cells; inputs = r.inputs; locals = r.locals }))
       (and_second (run_fits lines b (run_of c)) (left_fits d h b c.left) e)
 
   options-local : (o : Option OpHead) (p : Option Body) (c : Config Left) (b : Body) (j : ℕ) (w : Bits) → p ≡ Some b → fits (slice_index (local_widths b) j) w ≡ true → fits_body lines d o p c ≡ true →
@@ -88,9 +89,9 @@ module _ (lines : List Line) (d : DriverParts) where
       (run_fits-all lines b' (run_of c') (record { cells = r.cells; inputs = r.inputs; locals = fit-slice_set (local_widths b') c.locals j w f' r.locals }))
       (and_second (run_fits lines b' (run_of c)) (left_fits d h b' c.left) e)
 
-  pub word-fits : (op : ℕ) (c : Config Left) (j : ℕ) (w : Bits) → fits (slice_index (state_widths (cells_of lines)) j) w ≡ true → fits_config lines d op c ≡ true →
+  pub word-fits : (op : ℕ) (c : Config Left) (j : ℕ) (w : Bits) → slice_get (rom_words lines) j ≡ Some None → fits (slice_index (state_widths (cells_of lines)) j) w ≡ true → fits_config lines d op c ≡ true →
       fits_config lines d op (record c { cells = slice_set c.cells j w }) ≡ true
-  word-fits op c j w f e = options-word (slice_get d.ops op) (slice_get d.bodies op) c j w f e
+  word-fits op c j w at f e = options-word (slice_get d.ops op) (slice_get d.bodies op) c j w at f e
 
   pub local-fits : (op : ℕ) (c : Config Left) (b : Body) (j : ℕ) (w : Bits) → slice_get d.bodies op ≡ Some b → fits (slice_index (local_widths b) j) w ≡ true → fits_config lines d op c ≡ true →
       fits_config lines d op (record c { locals = slice_set c.locals j w }) ≡ true
@@ -118,16 +119,16 @@ module _ (lines : List Line) (d : DriverParts) (k : Known lines d) where
   pub move-fits : (op : ℕ) (c : Config Left) → fits_config lines d op c ≡ true → fits_config lines d op (move lines d c) ≡ true
   move-fits op c e = until-fits op (parts_left c.left) c e
 
-  options-cells : (o : Option OpHead) (p : Option Body) (c : Config Left) → fits_body lines d o p c ≡ true → fit (state_widths (cells_of lines)) c.cells ≡ true
+  options-cells : (o : Option OpHead) (p : Option Body) (c : Config Left) → fits_body lines d o p c ≡ true → fits_state lines c.cells ≡ true
   options-cells None p c e = cc
   options-cells (Some h) None c e = cc
   options-cells (Some h) (Some b) c e = (run_fits-parts lines b (run_of c) (and_first (run_fits lines b (run_of c)) (left_fits d h b c.left) e)).cells
 
-  pub cells-fit : (op : ℕ) (c : Config Left) → fits_config lines d op c ≡ true → fit (state_widths (cells_of lines)) c.cells ≡ true
+  pub cells-fit : (op : ℕ) (c : Config Left) → fits_config lines d op c ≡ true → fits_state lines c.cells ≡ true
   cells-fit op c e = options-cells (slice_get d.ops op) (slice_get d.bodies op) c e
 
   body-starts : (h : OpHead) (b : Body) (args cells : Words) → are_widths (arg_widths h) && (statements_fit d.funs (seen_widths d h b) (driver_leave d) b && result_fits d.funs (seen_widths d h b) h.result b.result) ≡ true →
-      fit (arg_widths h) args ≡ true → fit (state_widths (cells_of lines)) cells ≡ true → fits_body lines d (Some h) (Some b) (start_body d (Some b) args cells) ≡ true
+      fit (arg_widths h) args ≡ true → fits_state lines cells ≡ true → fits_body lines d (Some h) (Some b) (start_body d (Some b) args cells) ≡ true
   body-starts h b args cells ok fa fc =
       let ws = seen_widths d h b in
       let stmts = statements_fit d.funs ws (driver_leave d) b in
@@ -141,7 +142,7 @@ module _ (lines : List Line) (d : DriverParts) (k : Known lines d) where
       (run_fits-all lines b (first_run d (Some b) cells) (record { cells = fc; inputs = k.idle; locals = locals }))
       (both (fit (arg_widths h) args) more fa (both result (items_fit d ws (on [] b.stmts)) (and_second stmts result rest) items))
 
-  pub start-fits : (op : ℕ) (args cells : Words) (widths : List ℕ) → HasOp d op widths → fit widths args ≡ true → fit (state_widths (cells_of lines)) cells ≡ true → fits_config lines d op (start d op args cells) ≡ true
+  pub start-fits : (op : ℕ) (args cells : Words) (widths : List ℕ) → HasOp d op widths → fit widths args ≡ true → fits_state lines cells ≡ true → fits_config lines d op (start d op args cells) ≡ true
   start-fits op args cells widths has fa fc =
       let r = ops_fit-at d.funs [] d.outs (driver_leave d) d.ops d.bodies op has.head k.bodies has.at in
       let fa' : fit (arg_widths has.head) args ≡ true = subst (λ (ws : List ℕ). fit ws args ≡ true) (sym has.widths) fa in

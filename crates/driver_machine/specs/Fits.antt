@@ -1,11 +1,12 @@
 -- Whether a driver is at a place of an operation's body: what is left of the body obeys the rules of
--- the language, and all words have their widths. The project's own.
+-- the language, the cells are device words of the circuit, and all words have their widths. The project's own.
 use Rattle.std.specs.Prelude.{ℕ, ◌&&◌, List, [], ◌∷◌, length, slice_get, Option, Some, Bool, true, false}
 use Rattle.knox_words.specs.Lists.{fit, fits}
 use Rattle.knox_theory.specs.Device.{Reply, Replied, OutOfTurns}
 use Rattle.knox_theory.specs.Design.{Config}
 use Rattle.circuit_lines.specs.declared.line.Line.{Line}
-use Rattle.knox_circuit.specs.Circuit.{cells_of, state_widths, input_widths}
+use Rattle.circuit_meaning.specs.Circuit.{input_widths}
+use Rattle.circuit_meaning.specs.Rom.{fits_state}
 use Rattle.knox_lang.specs.declared.parts.OpHead.{OpHead}
 use Rattle.knox_lang.specs.declared.parts.Body.{Body}
 use Rattle.knox_lang.specs.declared.parts.DriverParts.{DriverParts}
@@ -40,9 +41,9 @@ left_fits d h b (Over r) = reply_fits h r
 left_fits d h b (Rest items args result) =
     fit (arg_widths h) args && (result_fits d.funs (seen_widths d h b) h.result result && items_fit d (seen_widths d h b) items)
 
--- whether cells, inputs and locals have their widths
+-- whether the cells are device words of the circuit, ROM words included, and inputs and locals have their widths
 abbrev pub run_fits : List Line → Body → Run → Bool
-run_fits lines b run = fit (state_widths (cells_of lines)) run.cells && (fit (input_widths lines) run.inputs && fit (local_widths b) run.locals)
+run_fits lines b run = fits_state lines run.cells && (fit (input_widths lines) run.inputs && fit (local_widths b) run.locals)
 
 abbrev pub fits_body : List Line → DriverParts → Option OpHead → Option Body → Config Left → Bool
 fits_body lines d (Some h) (Some b) c = run_fits lines b (run_of c) && left_fits d h b c.left

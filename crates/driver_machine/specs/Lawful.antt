@@ -1,10 +1,10 @@
 -- Designs whose driver is that of some parts, on a circuit of some lines: the laws of drivers hold of
 -- each. The project's own.
 use Rattle.std.specs.Prelude.{◌≡◌, ◌<◌, ℕ, List, slice_get, Some, true}
-use Rattle.knox_words.specs.Lists.{Words, fit}
+use Rattle.knox_words.specs.Lists.{Words}
 use Rattle.knox_theory.specs.Design.{Design, Config, Fits}
 use Rattle.circuit_lines.specs.declared.line.Line.{Line}
-use Rattle.knox_circuit.specs.Circuit.{cells_of, state_widths}
+use Rattle.circuit_meaning.specs.Rom.{fits_state}
 use Rattle.knox_lang.specs.declared.parts.OpHead.{OpHead}
 use Rattle.knox_lang.specs.declared.parts.DriverParts.{DriverParts}
 use Rattle.knox_lang.specs.Operation.{arg_widths}
@@ -21,9 +21,9 @@ pub record HasOp (d : DriverParts) (op : ℕ) (args : List ℕ) : Type 0 where
 
 pub record HasDriver (lines : List Line) (d : DriverParts) (g : Design Left) : Type 0 where
   pub ops : (o : ℕ) → o < g.device.ops → HasOp d o (g.device.args o)
-  -- the cells are those of the lines, and none has a word that is never taken
-  pub cells : (ws : Words) → Fits g.cells ws → fit (state_widths (cells_of lines)) ws ≡ true
-  pub of_cells : (ws : Words) → fit (state_widths (cells_of lines)) ws ≡ true → Fits g.cells ws
+  -- the cells are the device words of the lines, whose ROM words have their one value
+  pub cells : (ws : Words) → Fits g.cells ws → fits_state lines ws ≡ true
+  pub of_cells : (ws : Words) → fits_state lines ws ≡ true → Fits g.cells ws
   pub drive : (o : ℕ) (args cells : Words) → g.device.drive o args cells ≡ drive lines d o args cells
   pub start : (o : ℕ) (args cells : Words) → g.start o args cells ≡ start d o args cells
   pub move : (c : Config Left) → g.move c ≡ move lines d c

@@ -1,8 +1,8 @@
 //! A driver on its way through a body.
 ghost use Rattle.std.specs.Prelude.{◌≡◌, ◌-◌, ◌≤◌, ◌++◌, [], ◌∷◌, map, length, ℕ, List, Option, Some, None, IfOk, OnOk, OnErr};
 ghost use Rattle.std.specs.Option.{option_copied};
-ghost use Rattle.knox_circuit.specs.Circuit.{cells_of};
-ghost use Rattle.knox_circuit.specs.States.{words_in};
+ghost use Rattle.circuit_meaning.specs.Circuit.{cells_of};
+ghost use Rattle.circuit_meaning.specs.States.{words_in};
 ghost use Rattle.knox_lang.specs.Operation.{start_of};
 ghost use Rattle.driver_machine.specs.Drive.{locals_of, result_of, stmts_of};
 ghost use Rattle.driver_machine.specs.Left.{start, step, step_tests, next_tests};
@@ -195,7 +195,8 @@ impl DriverConfig {
     }
 
     /// Whether this is a place of a body of the driver, with words of the right widths: what is left
-    /// of the body obeys the rules of the language, and cells and inputs are those of the circuit.
+    /// of the body obeys the rules of the language, and cells and inputs are those of the circuit,
+    /// whose ROM words have their values.
     #[tactic(auto, using(crate::proofs::Placed::placing))]
     pub fn fits_config(&self, c: &Circuit, d: &DriverProgram) -> bool
         ensures { result ≡ fits_config c.now.lines d.now self.now.op (config_of d.now self.now) }
@@ -210,7 +211,8 @@ impl DriverConfig {
         }
     }
 
-    /// Whether the words have the widths of an operation and of its body, which is one of a driver.
+    /// Whether the words have the widths of an operation and of its body, which is one of a driver,
+    /// and the cells are device words of the circuit.
     fn fits_body(&self, c: &Circuit, head: &OpHead, body: &Body) -> bool
         ensures { result ≡ words_fit c.now.lines head.now body.now self.now }
     {

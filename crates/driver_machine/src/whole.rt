@@ -2,10 +2,10 @@
 ghost use Rattle.std.specs.Prelude.{◌≡◌, ◌==◌, ◌&&◌, ◌-◌, ◌<◌, ◌++◌, map, length, reverse, IfOk, OnOk, OnErr};
 ghost use Rattle.std.specs.Cmp.Lexicographic.{pointwise};
 ghost use Rattle.knox_words.specs.Lists.{fit};
-ghost use Rattle.knox_circuit.specs.declared.circuit.Port.{Port};
-ghost use Rattle.knox_circuit.specs.Circuit.{cells_of, input_widths, output_widths};
-ghost use Rattle.knox_circuit.specs.Ports.{outputs_of};
-ghost use Rattle.knox_circuit.specs.States.{words_in};
+ghost use Rattle.circuit_meaning.specs.declared.port.Port.{Port};
+ghost use Rattle.circuit_meaning.specs.Circuit.{cells_of, input_widths, output_widths};
+ghost use Rattle.circuit_meaning.specs.Ports.{outputs_of};
+ghost use Rattle.circuit_meaning.specs.States.{words_in};
 ghost use Rattle.knox_lang.specs.Fitting.{fits_driver};
 ghost use Rattle.driver_machine.specs.Begins.{listed};
 ghost use Rattle.driver_machine.specs.Drive.{drive};

@@ -1,13 +1,13 @@
 -- What a name in scope means: the word that was declared last under it, among the names that are
 -- written in the same way. And which names declarations bring into scope.
-use Rattle.std.specs.Prelude.{ℕ, suc, ◌&&◌, Bool, true, false, if◌then◌else◌, List, [], ◌∷◌, ◌++◌, map, codes, Option, Some, None, Result, Ok}
+use Rattle.std.specs.Prelude.{ℕ, suc, ◌&&◌, Bool, true, false, if◌then◌else◌, List, [], ◌∷◌, ◌++◌, map, codes, Option, Some, None, is_none, Result, Ok}
 use Rattle.std.specs.Str.{bytes_eq}
 use Rattle.std.specs.Fmt.{decimal}
 use Rattle.knox_text.specs.declared.place.Place.{Place}
 use Rattle.knox_sexpr.specs.declared.tree.Tree.{Tree, out-Tree}
 use Rattle.knox_sexpr.specs.declared.tree.Tree.TheOpen.{Tree-F}
-use Rattle.knox_circuit.specs.declared.circuit.Port.{Port}
-use Rattle.knox_circuit.specs.declared.circuit.Cell.{Cell}
+use Rattle.circuit_meaning.specs.declared.port.Port.{Port}
+use Rattle.circuit_meaning.specs.declared.port.Cell.{Cell}
 use Rattle.knox_lang.specs.declared.expr.Slot.{Slot}
 use Rattle.knox_lang.specs.declared.parts.Field.{Field}
 use Rattle.knox_lang.specs.declared.parts.OpHead.{OpHead}
@@ -166,19 +166,23 @@ abbrev pub port_names : Space → ℕ → List Port → List Named
 port_names space k [] = []
 port_names space k (p ∷ ps) = line_names p.name p.number (slot_of space k) p.width ++ port_names space (suc k) ps
 
+-- the names of a cell of one word: arrays have no names yet
+abbrev pub word_cell_names : Cell → Slot → List Named
+word_cell_names c slot = if is_none c.index then line_names c.name c.number slot c.width else []
+
 -- cells, each under its number among the cells
 abbrev pub cell_names : ℕ → List Cell → List Named
 cell_names k [] = []
-cell_names k (c ∷ cs) = line_names c.name c.number (slot_of spaces.Device k) c.width ++ cell_names (suc k) cs
+cell_names k (c ∷ cs) = word_cell_names c (slot_of spaces.Device k) ++ cell_names (suc k) cs
 
 -- cells whose words are those of a space, by their first words
 abbrev pub word_names : Space → List Cell → List Named
 word_names space [] = []
-word_names space (c ∷ cs) = line_names c.name c.number (slot_of space c.first) c.width ++ word_names space cs
+word_names space (c ∷ cs) = word_cell_names c (slot_of space c.first) ++ word_names space cs
 
 -- cells that are marked, by their first words
 abbrev pub where_marked : Bool → Cell → List Named
-where_marked m c = if m then line_names c.name c.number (slot_of spaces.Device c.first) c.width else []
+where_marked m c = if m then word_cell_names c (slot_of spaces.Device c.first) else []
 
 abbrev pub marked_names : List Cell → List Bool → List Named
 marked_names [] marks = []

@@ -3,7 +3,7 @@ ghost use Rattle.std.specs.Prelude.{◌≡◌, ◌++◌, ◌∷◌, [], take, So
 ghost use Rattle.knox_lang.specs.declared.expr.Space.TheVariants.{Device};
 ghost use Rattle.expr_read.specs.declared.names.Group.TheVariants.{Plain};
 ghost use Rattle.expr_read.specs.Views.{Gives};
-ghost use Rattle.expr_read.specs.Names.{group_of, is_named, found, seen_of, target_in, target_at, copied, target, op_number, is_declared, pair, argument_in, argument, arguments, local_in, local, locals, naming, numbered, field_names, by_name, line_names, port_names, cell_names, word_names, where_marked, marked_names};
+ghost use Rattle.expr_read.specs.Names.{group_of, is_named, found, seen_of, target_in, target_at, copied, target, op_number, is_declared, pair, argument_in, argument, arguments, local_in, local, locals, naming, numbered, field_names, by_name, line_names, port_names, word_cell_names, cell_names, word_names, where_marked, marked_names};
 
 use crate::faults::{LangFault, LangWhy, fault};
 use crate::views::{is_symbol, parts_of, place_of, symbol_of, width_of};
@@ -388,7 +388,24 @@ pub fn declare_fields(
     Ok(())
 }
 
-/// Brings cells into scope whose words are those of a space, by their first words.
+/// Brings a cell into scope, if it is one word: arrays have no names yet.
+fn declare_cell(
+    alloc: Global,
+    cell: &Cell,
+    slot: Slot,
+    names: &mut Items<Named>,
+) -> Result<(), AllocError>
+    ensures { OnOk result (names.new ≡ names.old ++ word_cell_names cell.now slot) }
+{
+    if cell.index.is_some() {
+        return Ok(());
+    }
+    let name = cell.name.as_slice();
+    declare_line(alloc, name, cell.number, slot, cell.width, names)
+}
+
+/// Brings those cells into scope that are one word, whose words are those of a space, by their first
+/// words.
 pub fn declare_words(
     alloc: Global,
     space: Space,
@@ -402,13 +419,12 @@ pub fn declare_words(
             space,
             number: cell.first,
         };
-        let name = cell.name.as_slice();
-        declare_line(alloc, name, cell.number, slot, cell.width, names)?;
+        declare_cell(alloc, cell, slot, names)?;
     }
     Ok(())
 }
 
-/// Brings a cell into scope where it is marked, by its first word.
+/// Brings a cell of one word into scope where it is marked, by its first word.
 fn declare_where(
     alloc: Global,
     marked: bool,
@@ -424,11 +440,10 @@ fn declare_where(
         space: Space::Device,
         number: cell.first,
     };
-    let name = cell.name.as_slice();
-    declare_line(alloc, name, cell.number, slot, cell.width, names)
+    declare_cell(alloc, cell, slot, names)
 }
 
-/// Brings those cells into scope that are marked, by their first words.
+/// Brings those cells of one word into scope that are marked, by their first words.
 pub fn declare_marked(
     alloc: Global,
     cells: &[Cell],
@@ -452,7 +467,7 @@ pub fn declare_marked(
     Ok(())
 }
 
-/// Brings cells into scope, each under its number among the cells.
+/// Brings the cells of one word into scope, each under its number among all cells.
 pub fn declare_cells(
     alloc: Global,
     cells: &[Cell],
@@ -466,14 +481,7 @@ pub fn declare_cells(
             space: Space::Device,
             number,
         };
-        declare_line(
-            alloc,
-            cell.name.as_slice(),
-            cell.number,
-            slot,
-            cell.width,
-            names,
-        )?;
+        declare_cell(alloc, cell, slot, names)?;
         number = number.checked_add(1).ok_or(AllocError)?;
     }
     Ok(())

@@ -11,7 +11,7 @@ use Rattle.knox.specs.declared.status.Status.{Status}
 use Rattle.knox.specs.declared.status.Status.TheVariants.{WriteFault, Memory}
 use Rattle.knox_verify.specs.declared.verdict.Verdict.TheVariants.{Yes, Undecided, TooWide}
 use Rattle.knox.specs.declared.outcome.Outcome.{Outcome}
-use Rattle.knox.specs.declared.outcome.Outcome.TheVariants.{NoCommand, UnbuiltCommand, Unread, Overlong, UnbuiltTexts, Lacking, Judged, Checked, Faulty, OutOfMemory}
+use Rattle.knox.specs.declared.outcome.Outcome.TheVariants.{NoCommand, UnbuiltCommand, Unread, Overlong, UnbuiltTexts, FaultyText, Judged, Checked, Faulty, OutOfMemory}
 use Rattle.knox.specs.declared.checking.CheckEnd.TheVariants.{Verified, Rejected, NoEmptyClause}
 use Rattle.knox.specs.Commands.{command_of}
 use Rattle.knox.specs.Lines.{letters_of}
@@ -33,8 +33,8 @@ by_outcome ws b a o o' e e' (Overlong which) (inl p) u v = inl (which, inl p.0, 
 by_outcome ws b a o o' e e' (Overlong which) (inr p) u v = inl (which, inr p.0, p.1, u, v)
 by_outcome ws b a o o' e e' UnbuiltTexts (inl p) u v = (inr p, u, v)
 by_outcome ws b a o o' e e' UnbuiltTexts (inr p) u v = absurd p.1
-by_outcome ws b a o o' e e' (Lacking letter why) (inl p) u v = inr (inr (letter, why, p.0, p.1, u, v))
-by_outcome ws b a o o' e e' (Lacking letter why) (inr p) u v = absurd p.1
+by_outcome ws b a o o' e e' (FaultyText letter why) (inl p) u v = inr (inr (letter, why, p.0, p.1, u, v))
+by_outcome ws b a o o' e e' (FaultyText letter why) (inr p) u v = absurd p.1
 by_outcome ws b a o o' e e' (Judged Yes) (inl p) u v = (p.0, p.1, u, v)
 by_outcome ws b a o o' e e' (Judged (Undecided hint choices)) (inl p) u v = (hint, choices, (p.0, p.1, u, v))
 by_outcome ws b a o o' e e' (Judged (TooWide hint bits)) (inl p) u v = (hint, bits, (p.0, p.1, u, v))
@@ -100,8 +100,8 @@ asks_by_outcome ws b a (Overlong which) (inl p) = up_to_prefix ws which TooLong 
 asks_by_outcome ws b a (Overlong which) (inr p) = up_to_prefix ws which TooLong b a p.1
 asks_by_outcome ws b a UnbuiltTexts (inl p) = whole_prefix ws b a p.1.0
 asks_by_outcome ws b a UnbuiltTexts (inr p) = absurd p.1
-asks_by_outcome ws b a (Lacking letter why) (inl p) = whole_prefix ws b a p.1.0
-asks_by_outcome ws b a (Lacking letter why) (inr p) = absurd p.1
+asks_by_outcome ws b a (FaultyText letter why) (inl p) = whole_prefix ws b a p.1.0
+asks_by_outcome ws b a (FaultyText letter why) (inr p) = absurd p.1
 asks_by_outcome ws b a (Judged verdict) (inl p) = whole_prefix ws b a p.1.0
 asks_by_outcome ws b a (Judged verdict) (inr p) = absurd p.1
 asks_by_outcome ws b a (Checked end) (inl p) = absurd p.1

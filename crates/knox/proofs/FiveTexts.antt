@@ -5,11 +5,10 @@ use Rattle.std.specs.Option.{option_map, unwrap_or}
 use Rattle.std.proofs.lemmas.Option.{slice_get_past}
 use Rattle.knox_edge.specs.Texts.{Bytes, Named, limit}
 use Rattle.knox_verify.specs.declared.verdict.Letter.{Letter}
-use Rattle.knox_verify.specs.declared.verdict.Letter.TheVariants.{D, H}
+use Rattle.knox_verify.specs.declared.verdict.Letter.TheVariants.{C, D, H}
 use Rattle.knox.specs.Reading.{Within, texts_of}
 use Rattle.knox_verify.specs.declared.verdict.TextWhy.{TextWhy}
-use Rattle.knox_verify.specs.declared.verdict.TextWhy.TheVariants.{TooLong, Lang, Script}
-use Rattle.knox_verify.specs.Meanings.{LacksCall, LacksForm}
+use Rattle.knox_verify.specs.declared.verdict.TextWhy.TheVariants.{TooLong, Circuit, Lang, Script}
 use Rattle.knox.specs.Verdicts.{NamesTexts}
 use Rattle.knox_verify.specs.declared.verdict.VerifyFault.TheVariants.{Text}
 use Rattle.knox_verify.specs.Verdicts.{first_long, RefusesLong, Explains, Names}
@@ -75,15 +74,17 @@ short t le = grind arith
 none-long : (c s d e h : Bytes) → Within (c ∷ s ∷ d ∷ e ∷ h ∷ []) → first_long c s d e h ≡ None
 none-long c s d e h w = rw (short c w.0, short s w.1.0, short d w.1.1.0, short e w.1.1.1.0, short h w.1.1.1.1.0) refl
 
--- a text that isn't too long is refused for what it lacks
-lacking : (c s d e h : Bytes) (letter : Letter) (why : TextWhy) → RefusesLong None (Err (Text letter why)) → Explains c s d e h (Text letter why) → Names (LacksCall c s d) (LacksForm c s d e h) (Text letter why)
-lacking c s d e h D (Lang f) long told = told
-lacking c s d e h H (Script f) long told = told
-lacking c s d e h letter TooLong long told = absurd long
-lacking c s d e h letter (Lang f) long told = absurd told
-lacking c s d e h letter (Script f) long told = absurd told
+-- a text that isn't too long is refused for its fault
+named : (c s d e h : Bytes) (letter : Letter) (why : TextWhy) → RefusesLong None (Err (Text letter why)) → Explains c s d e h (Text letter why) → Names c s d e h (Text letter why)
+named c s d e h C (Circuit f) long told = told
+named c s d e h D (Lang f) long told = told
+named c s d e h H (Script f) long told = told
+named c s d e h letter TooLong long told = absurd long
+named c s d e h letter (Circuit f) long told = absurd told
+named c s d e h letter (Lang f) long told = absurd told
+named c s d e h letter (Script f) long told = absurd told
 
-pub five-lacking : (ts : List Bytes) (c s d e h : Bytes) (letter : Letter) (why : TextWhy) → Within ts → ts ≡ c ∷ s ∷ d ∷ e ∷ h ∷ [] → RefusesLong (first_long c s d e h) (Err (Text letter why)) → Explains c s d e h (Text letter why) → NamesTexts (Text letter why) ts
-five-lacking ts c s d e h letter why within are long told =
+pub five-named : (ts : List Bytes) (c s d e h : Bytes) (letter : Letter) (why : TextWhy) → Within ts → ts ≡ c ∷ s ∷ d ∷ e ∷ h ∷ [] → RefusesLong (first_long c s d e h) (Err (Text letter why)) → Explains c s d e h (Text letter why) → NamesTexts (Text letter why) ts
+five-named ts c s d e h letter why within are long told =
     subst (NamesTexts (Text letter why)) (sym are)
-    (lacking c s d e h letter why (subst (λ o. RefusesLong o (Err (Text letter why))) (none-long c s d e h (subst Within are within)) long) told)
+    (named c s d e h letter why (subst (λ o. RefusesLong o (Err (Text letter why))) (none-long c s d e h (subst Within are within)) long) told)

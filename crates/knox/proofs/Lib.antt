@@ -4,5 +4,6 @@ pub mod FiveTexts
 pub mod Written
 pub mod Verified
 pub mod Explained
+pub mod FirstFault
 pub mod CheckSteps
 pub mod OneEnd

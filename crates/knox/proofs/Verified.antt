@@ -10,7 +10,7 @@ use Rattle.knox.specs.declared.outcome.Outcome.{Outcome}
 use Rattle.knox.specs.declared.outcome.Outcome.TheVariants.{NoCommand, UnbuiltCommand}
 use Rattle.knox_verify.specs.declared.verdict.Verdict.{Verdict}
 use Rattle.knox.specs.declared.judging.Unjudged.{Unjudged}
-use Rattle.knox.specs.declared.judging.Unjudged.TheVariants.{NotYet, Lacking, Memory}
+use Rattle.knox.specs.declared.judging.Unjudged.TheVariants.{NotYet, FaultyText, Memory}
 use Rattle.knox.specs.declared.checking.CheckEnd.{CheckEnd}
 use Rattle.knox.specs.declared.checking.Unchecked.{Unchecked}
 use Rattle.knox.specs.declared.checking.Unchecked.TheVariants as unchecked
@@ -35,7 +35,7 @@ Verifies-judged names b a j o e w h n = subst (Verifies names b a) (sym e) (at j
     at : (j : Result Verdict Unjudged) → IfOk j (λ v. JudgesTexts v (texts_of w.entries)) → IfErr j (λ why. UnjudgesTexts why (texts_of w.entries)) → Verifies names b a (outcome_of j)
     at (Ok v) h n = (w, h)
     at (Err NotYet) h n = (w, n)
-    at (Err (Lacking letter why)) h n = (w, n)
+    at (Err (FaultyText letter why)) h n = (w, n)
     at (Err Memory) h n = inr w
 
 -- a check of texts that were all read

@@ -1,14 +1,18 @@
 -- What each status of a run says.
-use Rattle.std.specs.Prelude.{◌≡◌, ℕ, List, [], ◌++◌, Option, None, take, slice_index_or, ◌⊎◌}
+use Rattle.std.specs.Prelude.{◌≡◌, ℕ, List, [], ◌∷◌, ◌++◌, Option, None, take, slice_index_or, ◌⊎◌}
 use Rattle.knox_edge.specs.declared.shelf.ShelfEnd.TheVariants.{Failed, TooLong}
 use Rattle.knox_edge.specs.Counts.{Rose}
 use Rattle.knox_edge.specs.Texts.{Bytes, Reads}
 use Rattle.knox.specs.declared.status.Status.{Status}
 use Rattle.knox.specs.declared.status.Status.TheVariants as status
+use Rattle.circuit_lines.specs.declared.fault.BtorFault.{BtorFault}
+use Rattle.text_lines.specs.Meaning.{FaultsAt}
 use Rattle.script_core.specs.declared.parts.HintNo.{HintNo}
 use Rattle.script_core.specs.declared.parts.Choices.{Choices}
 use Rattle.knox_verify.specs.declared.verdict.Letter.{Letter}
+use Rattle.knox_verify.specs.declared.verdict.Letter.TheVariants.{C}
 use Rattle.knox_verify.specs.declared.verdict.TextWhy.{TextWhy}
+use Rattle.knox_verify.specs.declared.verdict.TextWhy.TheVariants.{Circuit}
 use Rattle.knox_verify.specs.declared.verdict.VerifyFault.TheVariants as refusal
 use Rattle.knox_verify.specs.declared.verdict.Verdict.{Verdict}
 use Rattle.knox_verify.specs.declared.verdict.Verdict.TheVariants.{Yes, Undecided, TooWide}
@@ -48,9 +52,9 @@ Unreadable ws before after out out' err err' =
     × ((whole : ReadWhole (names_of ws) before after) × UnchecksTexts (Faulty which why) (texts_of whole.entries))
     × Whole out out' [] × Whole err err' (fault_line (letter_at (letters_of (command_of ws)) which) why)
 
--- the five texts were read, and that of the driver or of the hints is in the form but for what is missing, which was written to `err`, and nothing to `out`
-abbrev pub LacksText : List Bytes → Reads → Reads → Sunk → Sunk → Sunk → Sunk → Type 0
-LacksText ws before after out out' err err' =
+-- the five texts were read, and one has a fault that is told, the first of a circuit's text among them; it was written to `err`, and nothing to `out`
+abbrev pub FaultsText : List Bytes → Reads → Reads → Sunk → Sunk → Sunk → Sunk → Type 0
+FaultsText ws before after out out' err err' =
     (letter : Letter) × (why : TextWhy) × IsVerify (command_of ws)
     × ((whole : ReadWhole (names_of ws) before after) × NamesTexts (refusal.Text letter why) (texts_of whole.entries))
     × Whole out out' [] × Whole err err' (text_line letter why)
@@ -81,10 +85,21 @@ Explains ws before after out out' err err' status.ReadFault =
 Explains ws before after out out' err err' status.Text =
     ((which : ℕ) × IsBuilt (command_of ws) × ReadUpTo (names_of ws) which TooLong before after
     × Whole out out' [] × Whole err err' (too_long_line (letter_at (letters_of (command_of ws)) which)))
-    ⊎ (Unreadable ws before after out out' err err' ⊎ LacksText ws before after out out' err err')
+    ⊎ (Unreadable ws before after out out' err err' ⊎ FaultsText ws before after out out' err err')
 Explains ws before after out out' err err' status.WriteFault = Rose out.faults out'.faults ⊎ Rose err.faults err'.faults
 Explains ws before after out out' err err' status.Memory = Unit {0}
 
 -- the names that were asked are a prefix of the command's texts
 abbrev pub AsksPrefix : List Bytes → Reads → Reads → Type 0
 AsksPrefix ws before after = (count : ℕ) × (after.names ≡ before.names ++ take count (names_of ws))
+
+-- the first of five texts, that of the circuit, has this first fault
+abbrev pub FaultsCircuit : List Bytes → BtorFault → Type 0
+FaultsCircuit (c ∷ s ∷ d ∷ e ∷ h ∷ []) f = FaultsAt c f
+FaultsCircuit ts f = ⊥
+
+-- where five texts were read and the circuit's has a first fault, that fault is written to `err`, and nothing to `out`, unless a put fails or memory runs out
+abbrev pub TellsCircuit : List Bytes → Reads → Reads → Sunk → Sunk → Sunk → Sunk → Status → Type 0
+TellsCircuit ws before after out out' err err' result =
+    (whole : ReadWhole (names_of ws) before after) (first : BtorFault) → IsVerify (command_of ws) → FaultsCircuit (texts_of whole.entries) first →
+    ((result ≡ status.Text) × Whole out out' [] × Whole err err' (text_line C (Circuit first))) ⊎ ((result ≡ status.WriteFault) ⊎ (result ≡ status.Memory))

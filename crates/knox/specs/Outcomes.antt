@@ -6,7 +6,7 @@ use Rattle.knox.specs.declared.status.Status.TheVariants as status
 use Rattle.knox_verify.specs.declared.verdict.Verdict.{Verdict}
 use Rattle.knox_verify.specs.declared.verdict.Verdict.TheVariants.{Yes, Undecided, TooWide}
 use Rattle.knox.specs.declared.outcome.Outcome.{Outcome}
-use Rattle.knox.specs.declared.outcome.Outcome.TheVariants.{NoCommand, UnbuiltCommand, Unread, Overlong, UnbuiltTexts, Lacking, Judged, Checked, Faulty, OutOfMemory}
+use Rattle.knox.specs.declared.outcome.Outcome.TheVariants.{NoCommand, UnbuiltCommand, Unread, Overlong, UnbuiltTexts, FaultyText, Judged, Checked, Faulty, OutOfMemory}
 use Rattle.knox.specs.declared.checking.CheckEnd.{CheckEnd}
 use Rattle.knox.specs.declared.checking.CheckEnd.TheVariants.{Verified, Rejected, NoEmptyClause}
 use Rattle.knox.specs.Verdicts.{printed}
@@ -47,7 +47,7 @@ status_of UnbuiltCommand = status.NotYet
 status_of (Unread which) = status.ReadFault
 status_of (Overlong which) = status.Text
 status_of UnbuiltTexts = status.NotYet
-status_of (Lacking letter why) = status.Text
+status_of (FaultyText letter why) = status.Text
 status_of (Judged verdict) = status_of_verdict verdict
 status_of (Checked end) = status_of_check end
 status_of (Faulty which why) = status.Text
@@ -66,7 +66,7 @@ to_err letters names UnbuiltCommand = not_yet_line
 to_err letters names (Unread which) = cannot_read_line (slice_index_or names which [])
 to_err letters names (Overlong which) = too_long_line (letter_at letters which)
 to_err letters names UnbuiltTexts = not_yet_line
-to_err letters names (Lacking letter why) = text_line letter why
+to_err letters names (FaultyText letter why) = text_line letter why
 to_err letters names (Judged verdict) = []
 to_err letters names (Checked end) = []
 to_err letters names (Faulty which why) = fault_line (letter_at letters which) why

@@ -10,7 +10,7 @@ use Rattle.knox.specs.declared.command.Command.TheVariants.{Verify, Check}
 use Rattle.knox.specs.declared.status.Status.{Status}
 use Rattle.knox.specs.declared.status.Status.TheVariants as status
 use Rattle.knox.specs.declared.outcome.Outcome.{Outcome}
-use Rattle.knox.specs.declared.outcome.Outcome.TheVariants.{NoCommand, UnbuiltCommand, Unread, Overlong, UnbuiltTexts, Lacking, Judged, Checked, Faulty, OutOfMemory}
+use Rattle.knox.specs.declared.outcome.Outcome.TheVariants.{NoCommand, UnbuiltCommand, Unread, Overlong, UnbuiltTexts, FaultyText, Judged, Checked, Faulty, OutOfMemory}
 use Rattle.knox.specs.declared.checking.CheckEnd.{CheckEnd}
 use Rattle.knox.specs.declared.checking.Unchecked.{Unchecked}
 use Rattle.knox.specs.declared.checking.Unchecked.TheVariants as unchecked
@@ -54,7 +54,7 @@ Verifies names before after UnbuiltCommand = ⊥
 Verifies names before after (Unread which) = ReadUpTo names which Failed before after
 Verifies names before after (Overlong which) = ReadUpTo names which TooLong before after
 Verifies names before after UnbuiltTexts = (whole : ReadWhole names before after) × InNoForm (texts_of whole.entries)
-Verifies names before after (Lacking letter why) = (whole : ReadWhole names before after) × NamesTexts (Text letter why) (texts_of whole.entries)
+Verifies names before after (FaultyText letter why) = (whole : ReadWhole names before after) × NamesTexts (Text letter why) (texts_of whole.entries)
 Verifies names before after (Judged verdict) = (whole : ReadWhole names before after) × JudgesTexts verdict (texts_of whole.entries)
 Verifies names before after (Checked end) = ⊥
 Verifies names before after (Faulty which why) = ⊥
@@ -68,7 +68,7 @@ ChecksNamed names before after UnbuiltCommand = ⊥
 ChecksNamed names before after (Unread which) = ReadUpTo names which Failed before after
 ChecksNamed names before after (Overlong which) = ReadUpTo names which TooLong before after
 ChecksNamed names before after UnbuiltTexts = ⊥
-ChecksNamed names before after (Lacking letter why) = ⊥
+ChecksNamed names before after (FaultyText letter why) = ⊥
 ChecksNamed names before after (Judged verdict) = ⊥
 ChecksNamed names before after (Checked end) = (whole : ReadWhole names before after) × ChecksTexts end (texts_of whole.entries)
 ChecksNamed names before after (Faulty which why) = (whole : ReadWhole names before after) × UnchecksTexts (unchecked.Faulty which why) (texts_of whole.entries)
@@ -95,14 +95,14 @@ outcome_of_refused r = refused_as r.end r.which
 -- why five texts got no verdict
 abbrev pub UnjudgesTexts : Unjudged → List Bytes → Type 0
 UnjudgesTexts unjudged.NotYet ts = InNoForm ts
-UnjudgesTexts (unjudged.Lacking letter why) ts = NamesTexts (Text letter why) ts
+UnjudgesTexts (unjudged.FaultyText letter why) ts = NamesTexts (Text letter why) ts
 UnjudgesTexts unjudged.Memory ts = Unit {0}
 
 -- the outcome of a judgement
 abbrev pub outcome_of : Result Verdict Unjudged → Outcome
 outcome_of (Ok verdict) = Judged verdict
 outcome_of (Err unjudged.NotYet) = UnbuiltTexts
-outcome_of (Err (unjudged.Lacking letter why)) = Lacking letter why
+outcome_of (Err (unjudged.FaultyText letter why)) = FaultyText letter why
 outcome_of (Err unjudged.Memory) = OutOfMemory
 
 -- the outcome of a check

@@ -8,7 +8,6 @@ use Rattle.knox_verify.specs.declared.verdict.Verdict.{Verdict}
 use Rattle.knox_verify.specs.declared.verdict.Verdict.TheVariants.{Yes, Undecided, TooWide}
 use Rattle.knox_verify.specs.declared.verdict.VerifyFault.{VerifyFault}
 use Rattle.knox_verify.specs.declared.verdict.VerifyFault.TheVariants.{NotYet}
-use Rattle.knox_verify.specs.Meanings.{LacksCall, LacksForm}
 use Rattle.knox_verify.specs.Verdicts.{Judges, Explains, Names}
 
 -- what a verdict says of a list of five texts
@@ -16,14 +15,14 @@ abbrev pub JudgesTexts : Verdict → List Bytes → Type 0
 JudgesTexts v (c ∷ s ∷ d ∷ e ∷ h ∷ []) = Judges v c s d e h
 JudgesTexts v ts = ⊥
 
--- five texts that are in no form that is built, none of which lacks nothing but a call or a form of hints
+-- five texts that are in no form that is built, of which the first means a circuit, and none lacks nothing but a call or a form of hints
 abbrev pub InNoForm : List Bytes → Type 0
 InNoForm (c ∷ s ∷ d ∷ e ∷ h ∷ []) = Explains c s d e h NotYet
 InNoForm ts = ⊥
 
--- five texts, of which one has the fault that a refusal names: the driver's lacks nothing but a call, or that of hints nothing but a form
+-- five texts, of which one has the fault that a refusal names: it is the first of the circuit's text, or the driver's lacks nothing but a call, or that of hints nothing but a form
 abbrev pub NamesTexts : VerifyFault → List Bytes → Type 0
-NamesTexts fault (c ∷ s ∷ d ∷ e ∷ h ∷ []) = Names (LacksCall c s d) (LacksForm c s d e h) fault
+NamesTexts fault (c ∷ s ∷ d ∷ e ∷ h ∷ []) = Names c s d e h fault
 NamesTexts fault ts = ⊥
 
 -- a space and a word in decimal

@@ -186,7 +186,7 @@ pub fn deliver<O: Sink, E: Sink>(
         Outcome::UnbuiltCommand | Outcome::UnbuiltTexts => say(err, NOT_YET, Status::NotYet),
         Outcome::Unread(which) => say_unread(alloc, err, name_at(names, *which)),
         Outcome::Overlong(which) => say_overlong(alloc, err, letter(letters, *which)),
-        Outcome::Lacking(letter, why) => say_text_fault(alloc, err, *letter, *why),
+        Outcome::FaultyText(letter, why) => say_text_fault(alloc, err, *letter, *why),
         Outcome::Judged(verdict) => say_verdict(alloc, out, verdict),
         Outcome::Checked(end) => say_checked(alloc, out, *end),
         Outcome::Faulty(which, why) => say_fault(alloc, err, letter(letters, *which), *why),

@@ -13,10 +13,10 @@ use std::alloc::Global;
 /// Why texts that were read got no verdict.
 #[derive(Clone, Copy, Debug, PartialEq, Eq)]
 pub enum Unjudged {
-    /// A text is in no form that is built yet.
+    /// A text is in no form that is built yet, and it isn't the circuit's.
     NotYet,
-    /// This text is in the form that is built but for what is missing there.
-    Lacking(Letter, TextWhy),
+    /// This text has this fault.
+    FaultyText(Letter, TextWhy),
     /// Memory ran out.
     Memory,
 }
@@ -44,7 +44,7 @@ pub fn judge<F: Shelf>(
         Ok(verdict) => Ok(verdict),
         Err(VerifyFault::NotYet) => Err(Unjudged::NotYet),
         Err(VerifyFault::Memory) => Err(Unjudged::Memory),
-        Err(VerifyFault::Text(letter, why)) => Err(Unjudged::Lacking(letter, why)),
+        Err(VerifyFault::Text(letter, why)) => Err(Unjudged::FaultyText(letter, why)),
     }
 }
 

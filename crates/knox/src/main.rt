@@ -7,6 +7,10 @@ mod check_saying;
 #[cfg(test)]
 mod check_tests;
 mod checking;
+#[cfg(test)]
+mod circuit_fault_tests;
+#[cfg(test)]
+mod circuit_tests;
 mod command;
 mod delivery;
 #[cfg(test)]
@@ -22,6 +26,8 @@ mod host_devices;
 #[cfg(test)]
 mod host_tests;
 mod judging;
+#[cfg(test)]
+mod operator_tests;
 mod outcome;
 mod reading;
 mod run;

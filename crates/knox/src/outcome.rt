@@ -18,13 +18,13 @@ pub enum Outcome {
     Overlong(usize),
     /// A text is in no form that is built yet.
     UnbuiltTexts,
-    /// This text is in the form that is built but for what is missing there.
-    Lacking(Letter, TextWhy),
+    /// This one of five texts has this fault.
+    FaultyText(Letter, TextWhy),
     /// The texts have this verdict.
     Judged(Verdict),
     /// The check of a proof ends so.
     Checked(CheckEnd),
-    /// This text has this fault.
+    /// This one of a check's texts has this fault.
     Faulty(usize, ProofFault),
     /// Memory ran out.
     OutOfMemory,

@@ -1,7 +1,7 @@
 //! A run of the program: its words, then the reads, then the work, then the writing.
 ghost use Rattle.std.specs.Prelude.{◌≡◌, Some, None, length, take, Ok};
 ghost use Rattle.knox_edge.specs.Texts.{Reads, bytes_of};
-ghost use Rattle.knox.specs.Consequences.{Explains, AsksPrefix};
+ghost use Rattle.knox.specs.Consequences.{Explains, AsksPrefix, TellsCircuit};
 ghost use Rattle.knox.specs.Commands.{command_of};
 ghost use Rattle.knox.specs.Lines.{letters_of};
 ghost use Rattle.knox.specs.Runs.{Sunk, Verifies, ChecksNamed, Because, Ends, names_of, outcome_of, outcome_of_check, outcome_of_refused};
@@ -85,7 +85,7 @@ fn judged(judgement: Result<Verdict, Unjudged>) -> Outcome
     match judgement {
         Ok(verdict) => Outcome::Judged(verdict),
         Err(Unjudged::NotYet) => Outcome::UnbuiltTexts,
-        Err(Unjudged::Lacking(letter, why)) => Outcome::Lacking(letter, why),
+        Err(Unjudged::FaultyText(letter, why)) => Outcome::FaultyText(letter, why),
         Err(Unjudged::Memory) => Outcome::OutOfMemory,
     }
 }
@@ -132,10 +132,12 @@ fn text_letters(words: &[Vec<u8>]) -> &'static [u8]
 /// verdict goes to `out`, and a usage line, a fault or `not yet` goes to `err`.
 ///
 /// - `Usage` comes where the words are no command, and nothing is read.
-/// - `NotYet` comes where the command isn't built, and then nothing is read, or where a text is in
-///   no form that is built.
-/// - `ReadFault` and `Text` come where a read was refused; `Text` also where a text of a check has a
-///   fault, and where a driver lacks nothing but a call, or hints nothing but a form.
+/// - `NotYet` comes where the command isn't built, and then nothing is read, or where the circuit's
+///   text means one and another text is in no form that is built.
+/// - `ReadFault` and `Text` come where a read was refused; `Text` also where a text of a check or a
+///   circuit's text has a fault, and where a driver lacks nothing but a call, or hints nothing but a
+///   form.
+/// - The first fault of a circuit's text comes before anything that is said of the other texts.
 /// - `WriteFault` comes in place of the status that was to come, where a put failed.
 /// - `Memory` may come at any point.
 pub fn run<F: Shelf, O: Sink, E: Sink>(
@@ -159,6 +161,13 @@ pub fn run<F: Shelf, O: Sink, E: Sink>(
         let err_old : Sunk = record { written = E.written err.old; faults = E.faults err.old } in
         let err_new : Sunk = record { written = E.written err.new; faults = E.faults err.new } in
         Explains (bytes_of words.now.items.items) before after out_old out_new err_old err_new result }
+    ensures circuit { let before : Reads = record { names = F.names shelf.old; given = F.given shelf.old; taken = F.taken shelf.old; faults = F.faults shelf.old } in
+        let after : Reads = record { names = F.names shelf.new; given = F.given shelf.new; taken = F.taken shelf.new; faults = F.faults shelf.new } in
+        let out_old : Sunk = record { written = O.written out.old; faults = O.faults out.old } in
+        let out_new : Sunk = record { written = O.written out.new; faults = O.faults out.new } in
+        let err_old : Sunk = record { written = E.written err.old; faults = E.faults err.old } in
+        let err_new : Sunk = record { written = E.written err.new; faults = E.faults err.new } in
+        TellsCircuit (bytes_of words.now.items.items) before after out_old out_new err_old err_new result }
     ensures names { let before : Reads = record { names = F.names shelf.old; given = F.given shelf.old; taken = F.taken shelf.old; faults = F.faults shelf.old } in
         let after : Reads = record { names = F.names shelf.new; given = F.given shelf.new; taken = F.taken shelf.new; faults = F.faults shelf.new } in
         AsksPrefix (bytes_of words.now.items.items) before after }

@@ -92,7 +92,10 @@ fn long_text(alloc: Global) -> Result<Vec<u8>, AllocError> {
 fn a_text_of_one_byte_too_many(rt: HostRuntime) -> Result<(), Fail> {
     let alloc = rt.alloc();
     let mut held = Vec::new(alloc);
-    held.push((Vec::from_slice(alloc, b"c")?, Vec::new(alloc)))?;
+    held.push((
+        Vec::from_slice(alloc, b"c")?,
+        Vec::from_slice(alloc, b"1 frob")?,
+    ))?;
     held.push((Vec::from_slice(alloc, b"s")?, long_text(alloc)?))?;
     let shelf = MemShelf::new(alloc, held, Vec::new(alloc));
     let ran = run_line(

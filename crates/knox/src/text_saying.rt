@@ -1,8 +1,9 @@
 //! The line of a fault of one of a verify command's texts.
 ghost use Rattle.std.specs.Prelude.{◌≡◌, IfOk};
-ghost use Rattle.knox.specs.TextLines.{letter_shown, lang_shown, script_shown, why_shown, text_line};
+ghost use Rattle.knox.specs.TextLines.{letter_shown, circuit_shown, at_line, lang_shown, script_shown, why_shown, text_line};
 
 use crate::check_saying::{of_text, placed};
+use circuit_lines::Why;
 use expr_read::LangWhy;
 use knox_verify::{Letter, TextWhy};
 use script_read::ScriptWhy;
@@ -18,6 +19,38 @@ fn letter_shown(letter: Letter) -> &'static [u8]
         Letter::E => b"E",
         Letter::H => b"H",
     }
+}
+
+/// The name of the first rule that a circuit's text breaks.
+fn circuit_shown(why: Why) -> &'static [u8]
+    ensures { result.now ≡ circuit_shown why }
+{
+    match why {
+        Why::TooManyLines => b" TooManyLines\n",
+        Why::Number => b" Number\n",
+        Why::Order => b" Order\n",
+        Why::Constraint => b" Constraint\n",
+        Why::Unsupported => b" Unsupported\n",
+        Why::Keyword => b" Keyword\n",
+        Why::Operand => b" Operand\n",
+        Why::Sort => b" Sort\n",
+        Why::Digits => b" Digits\n",
+        Why::Width => b" Width\n",
+        Why::Init => b" Init\n",
+        Why::Next => b" Next\n",
+        Why::TooManyWords => b" TooManyWords\n",
+        Why::Memory => b" Memory\n",
+    }
+}
+
+/// A text line and a word.
+fn at_line(alloc: Global, line: u32, word: &[u8]) -> Result<Vec<u8>, AllocError>
+    ensures { IfOk result (λ shown. shown.items ≡ at_line line word.now) }
+{
+    let place = format!(in alloc; " line {line}")?;
+    let mut shown = Vec::from_slice(alloc, place.as_bytes())?;
+    shown.extend_from_slice(word)?;
+    Ok(shown)
 }
 
 /// The name of what is wrong with a text of the languages.
@@ -58,6 +91,7 @@ fn why_shown(alloc: Global, why: TextWhy) -> Result<Vec<u8>, AllocError>
 {
     match why {
         TextWhy::TooLong => Vec::from_slice(alloc, b" TooLong\n"),
+        TextWhy::Circuit(fault) => at_line(alloc, fault.line, circuit_shown(fault.why)),
         TextWhy::Lang(fault) => placed(alloc, fault.place, lang_shown(fault.why)),
         TextWhy::Script(fault) => placed(alloc, fault.place, script_shown(fault.why)),
     }

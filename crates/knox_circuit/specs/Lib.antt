@@ -1,10 +1,1 @@
-pub mod Ports
-pub mod Meaning
-pub mod Resolved
-pub mod Limited
-pub mod States
 pub mod Circuit
-pub mod Power
-pub mod Filled
-pub mod Form
-pub mod Whole

@@ -1,18 +1,17 @@
 //! A circuit in the making.
-ghost use Rattle.std.specs.Prelude.{◌≡◌, ◌≢◌, ◌++◌, [], ◌∷◌, ◌⊎◌, reverse, true, false, Some, IfOk, IfErr, OnOk, OnErr, IsTrue};
+ghost use Rattle.std.specs.Prelude.{◌≡◌, ◌≢◌, ◌++◌, [], ◌∷◌, reverse, Some, None, IfOk, IfErr, OnOk, OnErr};
+ghost use Rattle.std.specs.Option.{option_map};
 ghost use Rattle.circuit_rules.specs.Rules.{broken};
+ghost use Rattle.circuit_rules.specs.Whole.{unfed};
 ghost use Rattle.knox_circuit.specs.Circuit.{Circuit};
-ghost use Rattle.knox_circuit.specs.Form.{is_plain, is_line};
-ghost use Rattle.knox_circuit.specs.Whole.{is_complete};
 
-use crate::circuit::{self, Circuit};
-use crate::form;
+use crate::circuit::Circuit;
 use circuit_lines::{BtorFault, Line, Why};
 use circuit_rules::Lines;
 use std::alloc::Global;
 use std::marker::Model;
 
-/// The lines of a circuit so far. Each was tested against those before it.
+/// The lines of a circuit so far. Each breaks no rule after those before it.
 #[derive(Drop)]
 pub struct Draft {
     alloc: Global,
@@ -20,15 +19,11 @@ pub struct Draft {
 }
 
 impl Model for Draft {
-    ghost use Rattle.std.specs.Prelude.{reverse};
     ghost use Rattle.knox_circuit.specs.Circuit.{Circuit};
-    ghost use Rattle.knox_circuit.specs.Form.{IsInForm};
 
     ghost Value = { Circuit };
 
     ghost view = { λ d. record { lines = d.lines } };
-
-    ghost invariant = { λ d. IsInForm (reverse d.lines) };
 }
 
 impl Draft {
@@ -42,31 +37,33 @@ impl Draft {
         }
     }
 
-    /// Adds a line that is one of the form, after the lines so far. A refused line leaves the
-    /// draft as it was; it isn't plain, or the first rule that it breaks is told.
-    #[tactic(auto, using(crate::proofs::Formed::draft_steps))]
+    /// Adds a line that breaks no rule after the lines so far. A refused line leaves the draft as it
+    /// was; the first rule that it breaks is told.
     pub fn add(&mut self, line: Line) -> Result<(), Why>
         ensures ok { OnOk result (self.new.lines ≡ self.old.lines ++ line ∷ []) }
-        ensures accepted { OnOk result (IsTrue (is_line (reverse self.old.lines) line)) }
+        ensures accepted { OnOk result (broken (reverse self.old.lines) line ≡ None) }
         ensures err { OnErr result (self.new ≡ self.old) }
-        ensures refused { IfErr result (λ why. why ≢ Why.Memory → is_line (reverse self.old.lines) line ≡ false) }
-        ensures told { IfErr result (λ why. why ≢ Why.Memory → (broken (reverse self.old.lines) line ≡ Some why) ⊎ (is_plain (reverse self.old.lines) line.shape ≡ false)) }
+        ensures refused { IfErr result (λ why. why ≢ Why.Memory → broken (reverse self.old.lines) line ≡ Some why) }
     {
-        if !form::is_plain(self.lines.as_slice(), &line.shape) {
-            return Err(Why::Unsupported);
-        }
         self.lines.add(line)?;
         Ok(())
     }
 
-    /// The circuit of the lines. Refused where a state has no `next`.
-    #[tactic(auto, using(crate::proofs::Formed::draft_steps))]
+    /// The circuit of the lines. Refused with `Next` at the first line that breaks the rule of a
+    /// whole circuit: a state with an `init` and without a `next`, or an `output`, `next` or `bad`
+    /// line that hangs on a state without a `next`.
     pub fn finish(self) -> Result<Circuit, BtorFault>
         ensures ok { IfOk result (λ c. c.lines ≡ self.lines) }
-        ensures complete { IfOk result (λ c. is_complete (reverse self.lines) ≡ true) }
-        ensures refused { IfErr result (λ fault. fault.why ≢ Why.Memory → is_complete (reverse self.lines) ≡ false) }
+        ensures fed { IfOk result (λ c. unfed (reverse self.lines) ≡ None) }
+        ensures refused { IfErr result (λ fault. fault.why ≢ Why.Memory → (fault.why ≡ Why.Next) × (option_map (λ l. l.at) (unfed (reverse self.lines)) ≡ Some fault.line)) }
     {
         let Draft { alloc, lines } = self;
-        circuit::make(alloc, lines.into_items())
+        match lines.unfed()? {
+            None => Ok(Circuit::of(alloc, lines)?),
+            Some(line) => Err(BtorFault {
+                line,
+                why: Why::Next,
+            }),
+        }
     }
 }

@@ -1,6 +1,6 @@
 -- What a text means is one thing, and what it means is read unless memory runs out.
-use Rattle.std.proofs.Common.{◌≡◌, ◌≢◌, ◌⊎◌, inl, inr, ℕ, List, [], ◌∷◌, Option, Some, None, Bool, true, false, Result, Ok, Err, refl, sym, ◌∙◌, ap, subst}
-use Rattle.std.specs.Result.{IfErr}
+use Rattle.std.proofs.Common.{◌≡◌, ◌≢◌, ◌⊎◌, inl, inr, ℕ, List, Bool, true, false, Result, Ok, Err, refl, sym, ◌∙◌, ap, subst}
+use Rattle.std.specs.Result.{IfOk, IfErr}
 use Rattle.knox_text.specs.declared.place.Place.{Place}
 use Rattle.knox_text.specs.Places.{start_of, end_of}
 use Rattle.knox_sexpr.specs.declared.tree.Tree.{Tree}
@@ -12,7 +12,11 @@ use Rattle.knox_circuit.specs.Circuit.{Circuit}
 use Rattle.knox_lang.specs.declared.parts.SpecParts.{SpecParts}
 use Rattle.knox_lang.specs.declared.parts.DriverParts.{DriverParts}
 use Rattle.knox_lang.specs.declared.parts.EmuParts.{EmuParts}
-use Rattle.btor_read.specs.Grammar.{circuit_of}
+use Rattle.circuit_lines.specs.declared.fault.BtorFault.{BtorFault}
+use Rattle.text_lines.specs.Meaning.{FaultsAt}
+use Rattle.text_lines.proofs.Means.{one-fault}
+use Rattle.btor_read.specs.Grammar.{IsCircuit}
+use Rattle.btor_read.proofs.Circuits.{one-circuit, faultless}
 use Rattle.emu_machine.specs.Fits.{fits_device}
 use Rattle.script_read.specs.Scripts.{script_text}
 use Rattle.lang_read.specs.Specifications.{spec_text}
@@ -28,12 +32,14 @@ use Rattle.script_read.specs.declared.fault.ScriptFault.{ScriptFault}
 use Rattle.script_read.specs.Faults as hints
 use Rattle.knox_verify.specs.declared.verdict.VerifyFault.{VerifyFault}
 use Rattle.knox_verify.specs.declared.verdict.VerifyFault.TheVariants.{Text, NotYet, Memory}
-use Rattle.knox_verify.specs.declared.verdict.Letter.TheVariants.{D, H}
-use Rattle.knox_verify.specs.declared.verdict.TextWhy.TheVariants.{Lang, Script, TooLong}
-use Rattle.knox_verify.specs.Faults.{IsNoText, of_circuit, of_program, of_driver, of_driver_why, of_script, of_script_why}
+use Rattle.knox_verify.specs.declared.verdict.Letter.TheVariants.{C, D, H}
+use Rattle.knox_verify.specs.declared.verdict.TextWhy.TheVariants.{Lang, Script}
+use Rattle.knox_verify.specs.declared.verdict.TextWhy.TheVariants as why
+use Rattle.knox_verify.specs.declared.verdict.Verdict.{Verdict}
+use Rattle.knox_verify.specs.Faults.{IsNoText, of_circuit, of_circuit_why, of_program, of_driver, of_driver_why, of_script, of_script_why}
 use Rattle.knox_verify.specs.Judgements.{Parts}
 use Rattle.knox_verify.specs.Meanings.{Reads, MeansDevice, Means as MeansParts, Refuses, CallMissing, FormMissing, LacksCall, LacksForm}
-use Rattle.knox_verify.specs.Verdicts.{NamesDriver, NamesScript, Names, Explains}
+use Rattle.knox_verify.specs.Verdicts.{NamesCircuit, NamesDriver, NamesScript, NamesDevice, Names, Judges, Explains, TellsCircuit}
 
 -- a text means at most one list of trees
 abbrev pub OneMeaning : Type 0
@@ -69,38 +75,31 @@ refused-program lang.Bound f r x h m = no-fault x f r h m
 refused-program lang.Missing f r x h m = no-fault x f r h m
 
 -- so is a circuit
-some-none : {A G : Type 0} (x : A) (o : Option A) → o ≡ None → o ≡ Some x → G
-some-none x o n s = absurd cc
-
-pub refused-circuit : (why : Why) (o : Option Circuit) (x : Circuit) → (why ≢ circuit.Memory → o ≡ None) → o ≡ Some x → of_circuit why ≡ Memory
-refused-circuit circuit.Memory o x none some = refl
-refused-circuit _ o x none some = some-none x o (none (λ e. absurd cc)) some
+pub circuit-memory : (f : BtorFault) → f.why ≡ circuit.Memory → of_circuit f ≡ Memory
+circuit-memory f e = ap (of_circuit_why f) e
 
 pub not-both : (b : Bool) → b ≡ true → b ≡ false → ⊥
 not-both b e f = cc
 
-same-circuit : (o : Option Circuit) (x y : Circuit) → o ≡ Some x → o ≡ Some y → x ≡ y
-same-circuit o x y e f = cc
-
 -- what four texts mean is one device: the driver and the emulator over the circuit and the specification that were read
 pub driver-read : (c s d e : Bytes) (circuit : Circuit) (spec : SpecParts) (driver : DriverParts) (emulator : EmuParts) (x : Circuit) (y : SpecParts) → OneMeaning →
-    MeansDevice c s d e circuit spec driver emulator → circuit_of c ≡ Some x → Reads spec_text s y → Reads (driver_text x y) d driver
+    MeansDevice c s d e circuit spec driver emulator → IsCircuit c x → Reads spec_text s y → Reads (driver_text x y) d driver
 driver-read c s d e circuit spec driver emulator x y one m is read =
     subst (λ k. Reads (driver_text x k) d driver) (reads-one spec_text s spec y one m.spec_read read)
-    (subst (λ k. Reads (driver_text k spec) d driver) (same-circuit (circuit_of c) circuit x m.circuit_read is) m.driver_read)
+    (subst (λ k. Reads (driver_text k spec) d driver) (one-circuit c circuit x m.circuit_read is) m.driver_read)
 
 pub emulator-read : (c s d e : Bytes) (circuit : Circuit) (spec : SpecParts) (driver : DriverParts) (emulator : EmuParts) (x : Circuit) (y : SpecParts) (z : DriverParts) → OneMeaning →
-    MeansDevice c s d e circuit spec driver emulator → circuit_of c ≡ Some x → Reads spec_text s y → Reads (driver_text x y) d z → Reads (emulator_text x y z) e emulator
+    MeansDevice c s d e circuit spec driver emulator → IsCircuit c x → Reads spec_text s y → Reads (driver_text x y) d z → Reads (emulator_text x y z) e emulator
 emulator-read c s d e circuit spec driver emulator x y z one m is of_spec of_driver =
     subst (λ k. Reads (emulator_text x y k) e emulator) (reads-one (driver_text x y) d driver z one (driver-read c s d e circuit spec driver emulator x y one m is of_spec) of_driver)
     (subst (λ k. Reads (emulator_text x k driver) e emulator) (reads-one spec_text s spec y one m.spec_read of_spec)
-    (subst (λ k. Reads (emulator_text k spec driver) e emulator) (same-circuit (circuit_of c) circuit x m.circuit_read is) m.emulator_read))
+    (subst (λ k. Reads (emulator_text k spec driver) e emulator) (one-circuit c circuit x m.circuit_read is) m.emulator_read))
 
 -- and they fit each other
 pub read-fit : (c s d e : Bytes) (circuit : Circuit) (spec : SpecParts) (driver : DriverParts) (emulator : EmuParts) (x : Circuit) (y : SpecParts) (z : DriverParts) (w : EmuParts) → OneMeaning →
-    MeansDevice c s d e circuit spec driver emulator → circuit_of c ≡ Some x → Reads spec_text s y → Reads (driver_text x y) d z → Reads (emulator_text x y z) e w → fits_device x y z w ≡ true
+    MeansDevice c s d e circuit spec driver emulator → IsCircuit c x → Reads spec_text s y → Reads (driver_text x y) d z → Reads (emulator_text x y z) e w → fits_device x y z w ≡ true
 read-fit c s d e circuit spec driver emulator x y z w one m is of_spec of_driver of_emulator =
-    let circuits = same-circuit (circuit_of c) circuit x m.circuit_read is in
+    let circuits = one-circuit c circuit x m.circuit_read is in
     let specs = reads-one spec_text s spec y one m.spec_read of_spec in
     let drivers = reads-one (driver_text x y) d driver z one (driver-read c s d e circuit spec driver emulator x y one m is of_spec) of_driver in
     let emulators = reads-one (emulator_text x y z) e emulator w one (emulator-read c s d e circuit spec driver emulator x y z one m is of_spec of_driver) of_emulator in
@@ -119,7 +118,7 @@ pub record SameDevice (circuit x : Circuit) (spec y : SpecParts) (driver z : Dri
 pub same-device : (c s d e : Bytes) (circuit : Circuit) (spec : SpecParts) (driver : DriverParts) (emulator : EmuParts) (x : Circuit) (y : SpecParts) (z : DriverParts) (w : EmuParts) → OneMeaning →
     MeansDevice c s d e circuit spec driver emulator → MeansDevice c s d e x y z w → SameDevice circuit x spec y driver z emulator w
 same-device c s d e circuit spec driver emulator x y z w one m n = record {
-  circuits = same-circuit (circuit_of c) circuit x m.circuit_read n.circuit_read;
+  circuits = one-circuit c circuit x m.circuit_read n.circuit_read;
   specs = reads-one spec_text s spec y one m.spec_read n.spec_read;
   drivers = reads-one (driver_text x y) d driver z one (driver-read c s d e circuit spec driver emulator x y one m n.circuit_read n.spec_read) n.driver_read;
   emulators = reads-one (emulator_text x y z) e emulator w one (emulator-read c s d e circuit spec driver emulator x y z one m n.circuit_read n.spec_read n.driver_read) n.emulator_read;
@@ -246,35 +245,60 @@ found-driver f r fails is = subst (λ why. Fails why f r) is fails
 pub found-script : {A : Type 0} (f : ScriptFault) (r : Result A ScriptFault) → hints.Refuses f.why f r → FormMissing f → r ≡ Err f
 found-script f r fails is = subst (λ why. hints.Refuses why f r) is fails
 
--- a fault that names no text names none of a driver, and one of a driver's is one of all
-pub no-driver : (P : LangFault → Type 0) (f : VerifyFault) → IsNoText f → NamesDriver P f
-no-driver P (Text letter why) h = absurd h
-no-driver P NotYet h = tt
-no-driver P Memory h = tt
+-- what a refusal says of a circuit's text
+pub names-circuit : (c : Bytes) (f : BtorFault) → (f.why ≢ circuit.Memory → FaultsAt c f) → NamesCircuit c (of_circuit f)
+names-circuit c f faults = by_why f.why refl where
+  by_why : (w : Why) → f.why ≡ w → NamesCircuit c (of_circuit_why f w)
+  by_why circuit.Memory e = tt
+  by_why _ e = faults (λ m. let bad = sym e ∙ m in absurd cc)
 
-pub driver-mapped : (P Q : LangFault → Type 0) (f : VerifyFault) → ((g : LangFault) → P g → Q g) → NamesDriver P f → NamesDriver Q f
-driver-mapped P Q (Text D (Lang g)) more h = more g h
-driver-mapped P Q (Text letter why) more h = absurd h
-driver-mapped P Q NotYet more h = tt
-driver-mapped P Q Memory more h = tt
+-- what refusals of single texts say of the texts of a device
+pub circuit-device : (c s d : Bytes) (f : VerifyFault) → NamesCircuit c f → NamesDevice c s d f
+circuit-device c s d (Text C (why.Circuit g)) h = h
+circuit-device c s d Memory h = tt
+circuit-device c s d _ h = absurd h
 
-pub driver-names : (P : LangFault → Type 0) (Q : ScriptFault → Type 0) (f : VerifyFault) → NamesDriver P f → Names P Q f
-driver-names P Q (Text D (Lang g)) h = h
-driver-names P Q (Text letter why) h = absurd h
-driver-names P Q NotYet h = tt
-driver-names P Q Memory h = tt
+pub no-device : (c s d : Bytes) (f : VerifyFault) (x : Circuit) → IsCircuit c x → IsNoText f → NamesDevice c s d f
+no-device c s d (Text letter w) x is h = absurd h
+no-device c s d NotYet x is h = (x, is)
+no-device c s d Memory x is h = tt
 
-pub script-names : (P : LangFault → Type 0) (Q R : ScriptFault → Type 0) (f : VerifyFault) → ((g : ScriptFault) → R g → Q g) → NamesScript R f → Names P Q f
-script-names P Q R (Text H (Script g)) more h = more g h
-script-names P Q R (Text letter why) more h = absurd h
-script-names P Q R NotYet more h = tt
-script-names P Q R Memory more h = tt
+pub driver-device : (c s d : Bytes) (f : VerifyFault) (x : Circuit) (y : SpecParts) → IsCircuit c x → Reads spec_text s y → NamesDriver (Refuses CallMissing (driver_text x y) d) f → NamesDevice c s d f
+driver-device c s d (Text D (Lang g)) x y is read h = record { circuit = x; spec = y; circuit_read = is; spec_read = read; driver_lacks = h }
+driver-device c s d (Text letter w) x y is read h = absurd h
+driver-device c s d NotYet x y is read h = (x, is)
+driver-device c s d Memory x y is read h = tt
+
+-- and of all five
+pub device-names : (c s d e h : Bytes) (f : VerifyFault) → NamesDevice c s d f → Names c s d e h f
+device-names c s d e h NotYet n = n
+device-names c s d e h (Text C (why.Circuit g)) n = n
+device-names c s d e h (Text D (Lang g)) n = n
+device-names c s d e h (Text letter w) n = absurd n
+device-names c s d e h Memory n = tt
+
+pub script-names : (c s d e h : Bytes) (f : VerifyFault) (x : Circuit) (y : SpecParts) (z : DriverParts) (w : EmuParts) → MeansDevice c s d e x y z w →
+    NamesScript (Refuses FormMissing (script_text x y z w) h) f → Names c s d e h f
+script-names c s d e h (Text H (Script g)) x y z w m n = record { circuit = x; spec = y; driver = z; emulator = w; device = m; script_lacks = n }
+script-names c s d e h (Text letter why) x y z w m n = absurd n
+script-names c s d e h NotYet x y z w m n = (x, m.circuit_read)
+script-names c s d e h Memory x y z w m n = tt
+
+-- a circuit's first fault is told
+pub tells-circuit : (c s d e h : Bytes) (first : BtorFault) (r : Result Verdict VerifyFault) → FaultsAt c first → IfOk r (λ v. Judges v c s d e h) → IfErr r (Names c s d e h) → TellsCircuit first r
+tells-circuit c s d e h first (Ok v) faults judged names = faultless c judged.parts.circuit first judged.meant.device.circuit_read faults
+tells-circuit c s d e h first (Err NotYet) faults judged names = absurd (faultless c names.0 first names.1 faults)
+tells-circuit c s d e h first (Err (Text C (why.Circuit g))) faults judged names = inr (ap (λ x. Text C (why.Circuit x)) (one-fault c g first names faults))
+tells-circuit c s d e h first (Err (Text D (Lang g))) faults judged names = absurd (faultless c names.circuit first names.circuit_read faults)
+tells-circuit c s d e h first (Err (Text H (Script g))) faults judged names = absurd (faultless c names.circuit first names.device.circuit_read faults)
+tells-circuit c s d e h first (Err (Text letter w)) faults judged names = absurd names
+tells-circuit c s d e h first (Err Memory) faults judged names = inl refl
 
 -- a driver's text lacks a call over the circuit and the specification that were read
-pub driver-lacks : (c s d : Bytes) (f : LangFault) (x : Circuit) (y : SpecParts) → OneMeaning → LacksCall c s d f → circuit_of c ≡ Some x → Reads spec_text s y → Refuses CallMissing (driver_text x y) d f
+pub driver-lacks : (c s d : Bytes) (f : LangFault) (x : Circuit) (y : SpecParts) → OneMeaning → LacksCall c s d f → IsCircuit c x → Reads spec_text s y → Refuses CallMissing (driver_text x y) d f
 driver-lacks c s d f x y one m is read =
     subst (λ k. Refuses CallMissing (driver_text x k) d f) (reads-one spec_text s m.spec y one m.spec_read read)
-    (subst (λ k. Refuses CallMissing (driver_text k m.spec) d f) (same-circuit (circuit_of c) m.circuit x m.circuit_read is) m.driver_lacks)
+    (subst (λ k. Refuses CallMissing (driver_text k m.spec) d f) (one-circuit c m.circuit x m.circuit_read is) m.driver_lacks)
 
 -- then it means no driver
 ok-err : {A F G : Type 0} (x : A) (f : F) (r : Result A F) → r ≡ Ok x → r ≡ Err f → G
@@ -297,19 +321,21 @@ not-yet f g is (inl e) other = let bad : NotYet ≡ Memory = sym is ∙ e in abs
 not-yet f g is (inr e) other = other (sym e ∙ is)
 
 pub explained : (c s d e h : Bytes) (f : VerifyFault) → ((p : Parts) → MeansParts c s d e h p → f ≡ Memory) → ((g : LangFault) → LacksCall c s d g → (f ≡ Memory) ⊎ (f ≡ Text D (Lang g))) →
-    ((g : ScriptFault) → LacksForm c s d e h g → (f ≡ Memory) ⊎ (f ≡ Text H (Script g))) → Names (LacksCall c s d) (LacksForm c s d e h) f → Explains c s d e h f
+    ((g : ScriptFault) → LacksForm c s d e h g → (f ≡ Memory) ⊎ (f ≡ Text H (Script g))) → Names c s d e h f → Explains c s d e h f
 explained c s d e h NotYet only call form names = (
+  names,
   λ p m. let bad : NotYet ≡ Memory = only p m in absurd cc,
   λ g l. not-yet NotYet (Text D (Lang g)) refl (call g l) (λ e. absurd cc),
   λ g l. not-yet NotYet (Text H (Script g)) refl (form g l) (λ e. absurd cc),
 )
 explained c s d e h Memory only call form names = tt
+explained c s d e h (Text C (why.Circuit g)) only call form names = names
 explained c s d e h (Text D (Lang g)) only call form names = names
 explained c s d e h (Text H (Script g)) only call form names = names
-explained c s d e h (Text letter why) only call form names = absurd names
+explained c s d e h (Text letter w) only call form names = absurd names
 
 pub explained-result : {V : Type 0} (c s d e h : Bytes) (r : Result V VerifyFault) → ((p : Parts) → MeansParts c s d e h p → IfErr r (λ f. f ≡ Memory)) →
     ((g : LangFault) → LacksCall c s d g → IfErr r (λ f. (f ≡ Memory) ⊎ (f ≡ Text D (Lang g)))) → ((g : ScriptFault) → LacksForm c s d e h g → IfErr r (λ f. (f ≡ Memory) ⊎ (f ≡ Text H (Script g)))) →
-    IfErr r (Names (LacksCall c s d) (LacksForm c s d e h)) → IfErr r (Explains c s d e h)
+    IfErr r (Names c s d e h) → IfErr r (Explains c s d e h)
 explained-result c s d e h (Ok v) only call form names = tt
 explained-result c s d e h (Err f) only call form names = explained c s d e h f only call form names

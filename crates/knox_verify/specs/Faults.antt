@@ -1,7 +1,8 @@
--- Faults of texts as faults of the verifier: want of memory stays want of memory. Two faults have a place already, a call that a driver's text lacks and a
--- form that a text of hints lacks; every other one is that of a form that isn't built.
+-- Faults of texts as faults of the verifier: want of memory stays want of memory. Each fault of a circuit's text has a place. Of the other texts two faults have
+-- one already, a call that a driver's text lacks and a form that a text of hints lacks; every other one is that of a form that isn't built.
 use Rattle.circuit_lines.specs.declared.fault.Why.{Why}
 use Rattle.circuit_lines.specs.declared.fault.Why.TheVariants as circuit
+use Rattle.circuit_lines.specs.declared.fault.BtorFault.{BtorFault}
 use Rattle.knox_sexpr.specs.declared.fault.SexprFault.{SexprFault}
 use Rattle.knox_sexpr.specs.declared.fault.SexprFault.TheVariants as tree
 use Rattle.expr_read.specs.declared.faults.LangWhy.{LangWhy}
@@ -10,8 +11,8 @@ use Rattle.expr_read.specs.declared.faults.LangFault.{LangFault}
 use Rattle.script_read.specs.declared.fault.ScriptWhy.{ScriptWhy}
 use Rattle.script_read.specs.declared.fault.ScriptWhy.TheVariants as script
 use Rattle.script_read.specs.declared.fault.ScriptFault.{ScriptFault}
-use Rattle.knox_verify.specs.declared.verdict.Letter.TheVariants.{D, H}
-use Rattle.knox_verify.specs.declared.verdict.TextWhy.TheVariants.{Lang, Script}
+use Rattle.knox_verify.specs.declared.verdict.Letter.TheVariants.{C, D, H}
+use Rattle.knox_verify.specs.declared.verdict.TextWhy.TheVariants.{Circuit, Lang, Script}
 use Rattle.knox_verify.specs.declared.verdict.VerifyFault.{VerifyFault}
 use Rattle.knox_verify.specs.declared.verdict.VerifyFault.TheVariants.{Text, NotYet, Memory}
 
@@ -20,9 +21,13 @@ abbrev pub IsNoText : VerifyFault → Type 0
 IsNoText (Text letter why) = ⊥
 IsNoText _ = Unit {0}
 
-abbrev pub of_circuit : Why → VerifyFault
-of_circuit circuit.Memory = Memory
-of_circuit _ = NotYet
+-- of a circuit's text
+abbrev pub of_circuit_why : BtorFault → Why → VerifyFault
+of_circuit_why f circuit.Memory = Memory
+of_circuit_why f _ = Text C (Circuit f)
+
+abbrev pub of_circuit : BtorFault → VerifyFault
+of_circuit f = of_circuit_why f f.why
 
 abbrev pub of_trees : SexprFault → VerifyFault
 of_trees tree.Memory = Memory

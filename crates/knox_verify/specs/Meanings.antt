@@ -1,5 +1,5 @@
 -- What the five texts mean: each of them by a definition of its own, over those before it.
-use Rattle.std.specs.Prelude.{◌≡◌, true, List, Some, Result, Ok, Err}
+use Rattle.std.specs.Prelude.{◌≡◌, true, List, Result, Ok, Err}
 use Rattle.knox_text.specs.declared.place.Place.{Place}
 use Rattle.knox_text.specs.Places.{start_of, end_of}
 use Rattle.knox_sexpr.specs.declared.tree.Tree.{Tree}
@@ -9,7 +9,7 @@ use Rattle.knox_circuit.specs.Circuit.{Circuit}
 use Rattle.knox_lang.specs.declared.parts.SpecParts.{SpecParts}
 use Rattle.knox_lang.specs.declared.parts.DriverParts.{DriverParts}
 use Rattle.knox_lang.specs.declared.parts.EmuParts.{EmuParts}
-use Rattle.btor_read.specs.Grammar.{circuit_of}
+use Rattle.btor_read.specs.Grammar.{IsCircuit}
 use Rattle.expr_read.specs.declared.faults.LangFault.{LangFault}
 use Rattle.expr_read.specs.declared.faults.LangWhy.TheVariants as lang
 use Rattle.script_read.specs.declared.fault.ScriptFault.{ScriptFault}
@@ -27,9 +27,13 @@ pub record Reads {A F : Type 0} (reading : Place → List Tree → Result A F) (
   pub spelled : trees.Means text list
   pub meant : reading (end_of (start_of text)) list ≡ Ok x
 
+-- a text means a circuit
+abbrev pub HasCircuit : Bytes → Type 0
+HasCircuit c = (circuit : Circuit) × IsCircuit c circuit
+
 -- four texts mean a circuit, a specification, a driver and an emulator, which fit each other
 pub record MeansDevice (c s d e : Bytes) (circuit : Circuit) (spec : SpecParts) (driver : DriverParts) (emulator : EmuParts) : Type 0 where
-  pub circuit_read : circuit_of c ≡ Some circuit
+  pub circuit_read : IsCircuit c circuit
   pub spec_read : Reads spec_text s spec
   pub driver_read : Reads (driver_text circuit spec) d driver
   pub emulator_read : Reads (emulator_text circuit spec driver) e emulator
@@ -58,7 +62,7 @@ FormMissing f = f.why ≡ script.Missing
 pub record LacksCall (c s d : Bytes) (f : LangFault) : Type 0 where
   pub circuit : Circuit
   pub spec : SpecParts
-  pub circuit_read : circuit_of c ≡ Some circuit
+  pub circuit_read : IsCircuit c circuit
   pub spec_read : Reads spec_text s spec
   pub driver_lacks : Refuses CallMissing (driver_text circuit spec) d f
 

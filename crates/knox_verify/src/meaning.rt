@@ -1,6 +1,6 @@
 //! From five texts to what they mean: each text is read by its language's own definition, and
 //! parts that don't fit each other are in no form.
-ghost use Rattle.std.specs.Prelude.{◌≡◌, ◌≤◌, ◌⊎◌, length, List, Some, IfOk, IfErr};
+ghost use Rattle.std.specs.Prelude.{◌≡◌, ◌≤◌, ◌⊎◌, length, List, IfOk, IfErr};
 ghost use Rattle.knox_text.specs.Places.{start_of, end_of};
 ghost use Rattle.knox_sexpr.specs.declared.tree.Tree.{Tree};
 ghost use Rattle.knox_sexpr.specs.Grammar.{Means};
@@ -9,7 +9,7 @@ ghost use Rattle.knox_lang.specs.declared.parts.SpecParts.{SpecParts};
 ghost use Rattle.knox_lang.specs.declared.parts.DriverParts.{DriverParts};
 ghost use Rattle.knox_lang.specs.declared.parts.EmuParts.{EmuParts};
 ghost use Rattle.script_core.specs.declared.parts.ScriptParts.{ScriptParts};
-ghost use Rattle.btor_read.specs.Grammar.{circuit_of};
+ghost use Rattle.btor_read.specs.Grammar.{IsCircuit};
 ghost use Rattle.lang_read.specs.Specifications.{spec_text};
 ghost use Rattle.lang_read.specs.Drivers.{driver_text};
 ghost use Rattle.lang_read.specs.Emulators.{emulator_text};
@@ -20,10 +20,10 @@ ghost use Rattle.knox_verify.specs.declared.verdict.Letter.TheVariants.{D, H};
 ghost use Rattle.knox_verify.specs.declared.verdict.TextWhy.TheVariants as why;
 ghost use Rattle.knox_verify.specs.declared.verdict.VerifyFault.TheVariants.{Text, Memory};
 ghost use Rattle.knox_verify.specs.Meanings.{Reads, MeansDevice, Refuses, CallMissing, FormMissing, LacksCall};
-ghost use Rattle.knox_verify.specs.Verdicts.{NamesDriver, NamesScript};
+ghost use Rattle.knox_verify.specs.Verdicts.{NamesCircuit, NamesDriver, NamesScript, NamesDevice};
 ghost use Rattle.knox_verify.specs.Faults.{IsNoText};
 
-use crate::unbuilt::{driver_fault, script_fault};
+use crate::unbuilt::{circuit_fault, driver_fault, script_fault};
 use crate::verdict::VerifyFault;
 use emu_machine::Device;
 use knox_circuit::Circuit;
@@ -110,20 +110,23 @@ fn emulator_of(
     Ok(emulator)
 }
 
-/// The circuit that a text means.
+/// The circuit that a text means, or its first fault.
 fn circuit_of(alloc: Global, c: &[u8]) -> Result<Circuit, VerifyFault>
     requires { length c.now ≤ 67108864 }
-    ensures meant { IfOk result (λ circuit. circuit_of c.now ≡ Some circuit) }
-    ensures only { (x : Circuit) → circuit_of c.now ≡ Some x → IfErr result (λ f. f ≡ Memory) }
-    ensures fault { IfErr result IsNoText }
+    ensures meant { IfOk result (λ circuit. IsCircuit c.now circuit) }
+    ensures only { (x : Circuit) → IsCircuit c.now x → IfErr result (λ f. f ≡ Memory) }
+    ensures fault { IfErr result (NamesCircuit c.now) }
 {
-    let circuit = btor_read::read_circuit(alloc, c)?;
-    Ok(circuit)
+    match btor_read::read_circuit(alloc, c) {
+        Ok(circuit) => Ok(circuit),
+        Err(fault) => Err(circuit_fault(fault)),
+    }
 }
 
-/// The device that four texts of at most 64 MiB mean. `Text` comes where a driver's text is in the
-/// form but for a call that is missing, at its first parenthesis, and `NotYet` where the texts mean
-/// no device in a form that is built else.
+/// The device that four texts of at most 64 MiB mean. `Text` comes where the circuit's text means no
+/// circuit, with its first fault, and where a driver's text is in the form but for a call that is
+/// missing, at its first parenthesis. `NotYet` comes where the circuit's text means one, and the texts
+/// mean no device in a form that is built else.
 pub fn device_of(
     alloc: Global,
     c: &[u8],
@@ -138,7 +141,7 @@ pub fn device_of(
     ensures meant { IfOk result (λ dev. MeansDevice c.now s.now d.now e.now dev.circuit dev.spec dev.driver dev.emulator) }
     ensures only { (circuit : Circuit) (spec : SpecParts) (driver : DriverParts) (emulator : EmuParts) → MeansDevice c.now s.now d.now e.now circuit spec driver emulator → IfErr result (λ f. f ≡ Memory) }
     ensures lacks { (g : LangFault) → LacksCall c.now s.now d.now g → IfErr result (λ f. (f ≡ Memory) ⊎ (f ≡ Text D (why.Lang g))) }
-    ensures fault { IfErr result (NamesDriver (LacksCall c.now s.now d.now)) }
+    ensures fault { IfErr result (NamesDevice c.now s.now d.now) }
 {
     knox_sexpr::one_meaning();
     let circuit = circuit_of(alloc, c)?;

@@ -1,11 +1,12 @@
-//! Faults of texts as faults of the verifier: until the languages stand whole, a text that isn't
-//! read is one of a form that isn't built, unless nothing is wrong but that a form is missing.
+//! Faults of texts as faults of the verifier. Each fault of a circuit's text is told. Until the
+//! languages stand whole, another text that isn't read is one of a form that isn't built, unless
+//! nothing is wrong but that a form is missing.
 ghost use Rattle.std.specs.Prelude.{◌≡◌};
 ghost use Rattle.knox_verify.specs.declared.verdict.VerifyFault.TheVariants.{Memory};
-ghost use Rattle.knox_verify.specs.Faults.{of_driver, of_script};
+ghost use Rattle.knox_verify.specs.Faults.{of_circuit, of_driver, of_script};
 
 use crate::verdict::{Letter, TextWhy, VerifyFault};
-use knox_circuit::{BtorFault, Why};
+use circuit_lines::{BtorFault, Why};
 use knox_sexpr::SexprFault;
 use lang_read::{LangFault, LangWhy};
 use script_read::{ScriptFault, ScriptWhy};
@@ -16,19 +17,6 @@ impl From<AllocError> for VerifyFault {
 
     fn from(_e: AllocError) -> VerifyFault {
         VerifyFault::Memory
-    }
-}
-
-impl From<BtorFault> for VerifyFault {
-    ghost use Rattle.knox_verify.specs.Faults.{of_circuit};
-
-    ghost from_gives = { λ f fault. fault ≡ of_circuit f.why };
-
-    fn from(fault: BtorFault) -> VerifyFault {
-        match fault.why {
-            Why::Memory => VerifyFault::Memory,
-            _ => VerifyFault::NotYet,
-        }
     }
 }
 
@@ -55,6 +43,16 @@ impl From<LangFault> for VerifyFault {
             LangWhy::Memory => VerifyFault::Memory,
             _ => VerifyFault::NotYet,
         }
+    }
+}
+
+/// The fault of a circuit's text, with its place.
+pub(crate) fn circuit_fault(fault: BtorFault) -> VerifyFault
+    ensures { result ≡ of_circuit fault }
+{
+    match fault.why {
+        Why::Memory => VerifyFault::Memory,
+        _ => VerifyFault::Text(Letter::C, TextWhy::Circuit(fault)),
     }
 }
 

@@ -1,4 +1,5 @@
 //! Verdicts on five texts.
+use circuit_lines::BtorFault;
 use lang_read::LangFault;
 use script_core::{Choices, HintNo};
 use script_read::ScriptFault;
@@ -18,6 +19,8 @@ pub enum Letter {
 pub enum TextWhy {
     /// It has more than 67,108,864 bytes.
     TooLong,
+    /// This fault, the first, of a circuit's text.
+    Circuit(BtorFault),
     /// This fault of a driver's text: for now only that a call is missing.
     Lang(LangFault),
     /// This fault of a text of hints: for now only that a form is missing.
@@ -29,7 +32,8 @@ pub enum TextWhy {
 pub enum VerifyFault {
     /// This text has a fault.
     Text(Letter, TextWhy),
-    /// A text is in no form that is built yet, and has no fault that is told yet.
+    /// The circuit's text means a circuit, and another text is in no form that is built yet and has
+    /// no fault that is told yet.
     NotYet,
     /// Memory ran out. This says nothing of the texts.
     Memory,

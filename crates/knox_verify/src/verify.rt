@@ -1,12 +1,14 @@
 //! The verifier: five texts get their meaning, and then the script is decided segment by segment.
-ghost use Rattle.std.specs.Prelude.{◌≡◌, ◌≤◌, ◌⊎◌, length, IfOk, IfErr};
+ghost use Rattle.std.specs.Prelude.{◌≡◌, ◌≤◌, ◌⊎◌, length, None, IfOk, IfErr};
+ghost use Rattle.circuit_lines.specs.declared.fault.BtorFault.{BtorFault};
+ghost use Rattle.text_lines.specs.Meaning.{FaultsAt};
 ghost use Rattle.expr_read.specs.declared.faults.LangFault.{LangFault};
 ghost use Rattle.script_read.specs.declared.fault.ScriptFault.{ScriptFault};
 ghost use Rattle.script_core.specs.Hints.{ops_of};
 ghost use Rattle.knox_verify.specs.declared.verdict.Letter.TheVariants.{D, H};
 ghost use Rattle.knox_verify.specs.declared.verdict.TextWhy.TheVariants as why;
 ghost use Rattle.knox_verify.specs.declared.verdict.VerifyFault.TheVariants.{Text, Memory};
-ghost use Rattle.knox_verify.specs.Verdicts.{first_long, RefusesLong, Judges, Decided, Explains, Names};
+ghost use Rattle.knox_verify.specs.Verdicts.{first_long, RefusesLong, Judges, Decided, Explains, Names, TellsCircuit};
 ghost use Rattle.knox_verify.specs.Judgements.{Parts, parts_of};
 ghost use Rattle.knox_verify.specs.Meanings.{Means, LacksCall, LacksForm};
 
@@ -53,7 +55,7 @@ fn verify_short(
     ensures only { (p : Parts) → Means c.now s.now d.now e.now h.now p → IfErr result (λ f. f ≡ Memory) }
     ensures call { (g : LangFault) → LacksCall c.now s.now d.now g → IfErr result (λ f. (f ≡ Memory) ⊎ (f ≡ Text D (why.Lang g))) }
     ensures form { (g : ScriptFault) → LacksForm c.now s.now d.now e.now h.now g → IfErr result (λ f. (f ≡ Memory) ⊎ (f ≡ Text H (why.Script g))) }
-    ensures fault { IfErr result (Names (LacksCall c.now s.now d.now) (LacksForm c.now s.now d.now e.now h.now)) }
+    ensures fault { IfErr result (Names c.now s.now d.now e.now h.now) }
 {
     knox_sexpr::one_meaning();
     let dev = device_of(alloc, c, s, d, e)?;
@@ -65,8 +67,9 @@ fn verify_short(
     Ok(verdict)
 }
 
-/// The verdict on a circuit, a specification, a driver, an emulator and a hint text. The budget of
-/// lemmas and the number of paths have no effect yet.
+/// The verdict on a circuit, a specification, a driver, an emulator and a hint text. A text that is
+/// too long comes before any fault, and the circuit's first fault before anything that is said of the
+/// other texts. The budget of lemmas and the number of paths have no effect yet.
 pub fn verify_texts(
     alloc: Global,
     c: &[u8],
@@ -80,6 +83,7 @@ pub fn verify_texts(
     ensures judged { IfOk result (λ v. Judges v c.now s.now d.now e.now h.now) }
     ensures refused { IfErr result (Explains c.now s.now d.now e.now h.now) }
     ensures too_long { RefusesLong (first_long c.now s.now d.now e.now h.now) result }
+    ensures circuit { (first : BtorFault) → first_long c.now s.now d.now e.now h.now ≡ None → FaultsAt c.now first → TellsCircuit first result }
 {
     if c.len() > LIMIT {
         return Err(VerifyFault::Text(Letter::C, TextWhy::TooLong));

@@ -3,10 +3,11 @@ use Rattle.std.proofs.Common.{◌≡◌, ◌↔◌, ℕ, nat_lt, ◌++◌, Bool,
 use Rattle.knox_text.specs.declared.place.Place.{Place}
 use Rattle.knox_sexpr.specs.declared.tree.Tree.{Tree}
 use Rattle.knox_words.specs.Bits.{Bits, bits, is_word}
-use Rattle.knox_circuit.specs.declared.circuit.Port.{Port}
-use Rattle.knox_circuit.specs.declared.circuit.Cell.{Cell}
-use Rattle.knox_circuit.specs.Ports.{inputs_of, outputs_of}
-use Rattle.knox_circuit.specs.Circuit.{Circuit, cells_of}
+use Rattle.circuit_meaning.specs.declared.port.Port.{Port}
+use Rattle.circuit_meaning.specs.declared.port.Cell.{Cell}
+use Rattle.circuit_meaning.specs.Ports.{inputs_of, outputs_of}
+use Rattle.knox_circuit.specs.Circuit.{Circuit}
+use Rattle.circuit_meaning.specs.Circuit.{cells_of}
 use Rattle.knox_lang.specs.declared.expr.Space.TheVariants.{Arg, Local, Input, Output}
 use Rattle.knox_lang.specs.declared.parts.OpHead.{OpHead}
 use Rattle.knox_lang.specs.declared.parts.Body.{Body}

@@ -4,11 +4,11 @@ use Rattle.std.specs.Prelude.{ℕ, nat_le, false, if◌then◌else◌, List, [],
 use Rattle.knox_text.specs.declared.place.Place.{Place}
 use Rattle.knox_sexpr.specs.declared.tree.Tree.{Tree}
 use Rattle.knox_words.specs.Bits.{word_or}
-use Rattle.knox_circuit.specs.declared.circuit.Port.{Port}
-use Rattle.knox_circuit.specs.declared.circuit.Cell.{Cell}
-use Rattle.knox_circuit.specs.Ports.{inputs_of, outputs_of}
-use Rattle.knox_circuit.specs.Circuit.{Circuit, cells_of}
-use Rattle.knox_circuit.specs.Power.{noise_cells}
+use Rattle.circuit_meaning.specs.declared.port.Port.{Port}
+use Rattle.circuit_meaning.specs.declared.port.Cell.{Cell}
+use Rattle.circuit_meaning.specs.Ports.{inputs_of, outputs_of}
+use Rattle.knox_circuit.specs.Circuit.{Circuit, noise_cells}
+use Rattle.circuit_meaning.specs.Circuit.{cells_of}
 use Rattle.cell_fields.specs.Fields.{cell_field}
 use Rattle.knox_lang.specs.declared.expr.Expr.{Expr}
 use Rattle.knox_lang.specs.declared.expr.Expr.TheVariants.{Lit}

@@ -1,12 +1,14 @@
--- What the computed examples speak of: two operations, and drivers that call none and one of them.
-use Rattle.std.specs.Prelude.{ℕ, List, [], ◌∷◌, codes, None}
+-- What the computed examples speak of: two operations, drivers that call none and one of them, and cells.
+use Rattle.std.specs.Prelude.{ℕ, List, [], ◌∷◌, codes, Some, None}
 use Rattle.knox_text.specs.Examples.{place}
 use Rattle.knox_words.specs.Bits.{bits}
 use Rattle.knox_sexpr.specs.declared.tree.Tree.{Tree}
 use Rattle.knox_sexpr.specs.declared.tree.Tree.TheVariants as trees
+use Rattle.circuit_meaning.specs.declared.port.Cell.{Cell}
 use Rattle.knox_circuit.specs.Circuit.{Circuit}
 use Rattle.knox_lang.specs.declared.expr.Expr.{Expr}
 use Rattle.knox_lang.specs.declared.expr.Expr.TheVariants.{Lit}
+use Rattle.knox_lang.specs.declared.expr.Space.{Space}
 use Rattle.knox_lang.specs.declared.expr.Space.TheVariants.{Input}
 use Rattle.knox_lang.specs.declared.parts.OpHead.{OpHead}
 use Rattle.knox_lang.specs.declared.parts.SpecParts.{SpecParts}
@@ -50,3 +52,14 @@ steps_of_cost c = record { stmts = []; cost = c }
 -- the input of a number, 2 bits wide
 abbrev pub input : ℕ → Seen
 input k = record { slot = record { space = Input; number = k }; width = 2 }
+
+-- an array x of 4 words at line 3, and behind its words a word y at line 5
+abbrev pub array_cell : Cell
+array_cell = record { name = codes "x"; number = 3; width = 8; index = Some 2; first = 0 }
+
+abbrev pub word_cell : Cell
+word_cell = record { name = codes "y"; number = 5; width = 8; index = None; first = 4 }
+
+-- a word of 8 bits at a place of a space
+abbrev pub byte_at : Space → ℕ → Seen
+byte_at space k = record { slot = record { space = space; number = k }; width = 8 }

@@ -1,7 +1,7 @@
 //! Drivers: `(driver (persistent x ..) (idle (x n) ..) (call op body (result e)) ..)`, where the first
 //! two may be left out.
 ghost use Rattle.std.specs.Prelude.{◌≡◌, IfOk};
-ghost use Rattle.knox_circuit.specs.Circuit.{cells_of};
+ghost use Rattle.circuit_meaning.specs.Circuit.{cells_of};
 ghost use Rattle.expr_read.specs.Views.{Gives};
 ghost use Rattle.lang_read.specs.Drivers.{is_among, cell_of, new_cell, named_cells, keep_from, persistent, keep_of, idle_word, idled, idle_in, idle_entry, idle_entries, zero_words, idle_of, bodies, widths_of, together, driver_in, complete, made, driver_of, driver_text};
 

@@ -16,7 +16,8 @@ mod statement;
 pub use driver::read_driver;
 pub use emulator::read_emulator;
 pub use examples::{
-    costs_as_expected, entries_as_expected, lacking_calls_as_expected, second_calls_as_expected,
+    arrays_have_no_names_as_expected, costs_as_expected, entries_as_expected,
+    lacking_calls_as_expected, second_calls_as_expected,
 };
 pub use expr_read::{LangFault, LangWhy};
 pub use laws::missing_is_a_call;

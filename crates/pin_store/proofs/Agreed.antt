@@ -1,28 +1,25 @@
 -- The store with a secret of one bit: its design is lawful and its script is closed, so its worlds agree.
-use Rattle.std.proofs.Common.{◌≡◌, ◌&&◌, List, [], ◌∷◌, map, reverse, Some, Bool, true, IsTrue, refl, subst, arith}
+use Rattle.std.proofs.Common.{◌≡◌, ◌&&◌, List, [], ◌∷◌, reverse, Option, Some, None, is_none, Bool, true, refl, sym, ◌∙◌, subst, arith}
 use Rattle.knox_theory.specs.Agreement.{Agree}
 use Rattle.knox_theory.specs.Closed.{Closed}
 use Rattle.knox_theory.specs.Lawful.{IsDesign}
 use Rattle.knox_theory.specs.Script.{HostSections, Script, IsScript, HasCallLocations}
 use Rattle.knox_theory.proofs.Agreeing.{agree}
+use Rattle.knox_theory.proofs.Basics.{and-left, and-right}
 use Rattle.knox_theory.proofs.Listed.{closed-host, closed-wires}
-use Rattle.knox_circuit.specs.declared.circuit.Cell.{Cell}
-use Rattle.knox_circuit.specs.declared.circuit.Port.{Port}
 use Rattle.circuit_lines.specs.declared.line.Line.{Line}
-use Rattle.knox_circuit.specs.declared.table.Tables.{Tables}
-use Rattle.knox_circuit.specs.Circuit.{cells_of}
-use Rattle.knox_circuit.specs.Form.{is_line, IsInForm}
-use Rattle.knox_circuit.specs.Ports.{inputs_of, outputs_of, output_operands}
-use Rattle.knox_circuit.specs.Resolved.{nodes_of, output_args, next_args, first_word}
-use Rattle.knox_circuit.specs.States.{cells_among, bares_among, states_among}
-use Rattle.knox_circuit.specs.Whole.{IsTabled}
-use Rattle.knox_circuit.proofs.Tests.{and-left, and-right}
-use Rattle.knox_circuit.proofs.Noisy.{cells-single, cells-widths}
-use Rattle.knox_circuit.proofs.Persisting.{persistent-fit, power-kept, spread-back, spread-fit}
-use Rattle.knox_circuit.proofs.Renewed.{factory-fits, power-fits}
-use Rattle.knox_circuit.proofs.Shown.{outputs-fit}
-use Rattle.knox_circuit.proofs.Sound.{AllSound, cells-sound, tick-fits}
+use Rattle.circuit_rules.specs.Rules.{broken, AreRuled}
+use Rattle.circuit_meaning.specs.Circuit.{cells_of}
+use Rattle.circuit_widths.proofs.Celled.{cells-sound}
+use Rattle.circuit_widths.proofs.Counted.{state-count, noise-taken}
+use Rattle.circuit_widths.proofs.Ticked.{tick-fits}
+use Rattle.circuit_widths.proofs.Shown.{outputs-fit}
+use Rattle.circuit_widths.proofs.Powered.{factory-fits, power-fits}
+use Rattle.circuit_widths.proofs.Persisting.{persistent-fit, spread-fit, spread-back, power-kept, power-alone}
+use Rattle.circuit_rom.proofs.Ticking.{tick-agrees, known-count}
+use Rattle.circuit_rom.proofs.Building.{power-agrees, factory-agrees}
 use Rattle.driver_machine.specs.Left.{Left}
+use Rattle.driver_machine.proofs.Keeping.{keeps-states}
 use Rattle.driver_machine.proofs.Lawfully.{is-driver, known}
 use Rattle.emu_machine.specs.Fits.{fits_device}
 use Rattle.device_design.specs.Meaning.{design_of}
@@ -39,63 +36,42 @@ ls = lines 1 shown
 
 -- ---- the circuit
 
-abbrev are_in_form : List Line → Bool
-are_in_form [] = true
-are_in_form (l ∷ before) = is_line before l && are_in_form before
-
-in-form : (past : List Line) → IsTrue (are_in_form past) → IsInForm past
-in-form [] h = tt
-in-form (l ∷ before) h = (and-left _ _ h, in-form before (and-right _ _ h))
-
 abbrev all : List Line
 all = reverse ls
 
-abbrev tables : Tables
-tables = record {
-  inputs = inputs_of all;
-  outputs = outputs_of all;
-  cells = cells_among all all;
-  bares = bares_among all all;
-  nodes = nodes_of (cells_among all all) all;
-  output_args = output_args all (output_operands all);
-  next_args = next_args all (cells_among all all);
-  first_words = map (first_word all) (states_among all all);
-  input_widths = map (λ (p : Port). p.width) (inputs_of all);
-  state_widths = map (λ (c : Cell). c.width) (cells_among all all);
-}
+abbrev are_ruled : List Line → Bool
+are_ruled [] = true
+are_ruled (l ∷ before) = is_none (broken before l) && are_ruled before
 
-tabled : IsTabled all tables
-tabled = record {
-  inputs = refl;
-  outputs = refl;
-  cells = refl;
-  bares = refl;
-  nodes = refl;
-  output_args = refl;
-  next_args = refl;
-  first_words = refl;
-  input_widths = refl;
-  state_widths = refl;
-  words = refl;
-  form = in-form all refl;
-  few = omega arith;
-  complete = refl;
-}
+none-is : {A : Type 0} (o : Option A) → is_none o ≡ true → o ≡ None
+none-is None h = refl
+none-is (Some a) h = cc
 
-sound : AllSound all (cells_of ls)
-sound = cells-sound all all tabled.form
+ruled-from : (past : List Line) → are_ruled past ≡ true → AreRuled past
+ruled-from [] h = tt
+ruled-from (l ∷ before) h = (none-is (broken before l) (and-left _ _ h), ruled-from before (and-right _ _ h))
+
+ruled : AreRuled all
+ruled = ruled-from all refl
 
 circuit-laws : CircuitLaws (circuit 1 shown) keep
 circuit-laws = record {
-  tick = λ state ins f g. tick-fits ls tables tabled state ins f g;
-  factory = λ noise f. factory-fits ls tables tabled noise f;
-  power = λ state noise f g. power-fits ls tables tabled keep state noise refl f g;
-  kept = λ state noise f g. power-kept ls tables tabled keep state noise refl f g;
-  fitting = λ state f. persistent-fit all (cells_of ls) keep state sound f;
-  spread = λ words f. spread-fit all (cells_of ls) keep words sound f;
-  noise = cells-widths ls tables keep tabled;
-  single = cells-single ls tables keep tabled;
-  back = λ words f. spread-back all (cells_of ls) keep words sound f;
+  tick = λ state ins f g. tick-fits ls ruled state ins f g;
+  factory = λ noise f. factory-fits ls ruled noise f;
+  power = λ state noise f g. power-fits ls ruled keep state noise f g;
+  kept = λ state noise f g. power-kept ls keep state noise f;
+  fitting = λ state f. persistent-fit (cells_of ls) keep state f;
+  spread = λ words f. spread-fit all ruled (cells_of ls) (cells-sound all all ruled) keep words f;
+  noise = noise-taken all all keep;
+  back = λ words f. spread-back (cells_of ls) keep words f;
+  alone = λ state noise f g. power-alone ls keep state noise f;
+  roms = record {
+    count = λ state f. known-count ls ∙ sym (state-count ls state f);
+    widths = refl;
+    factory = λ noise. factory-agrees ls noise ruled;
+    tick = λ state ins f k. tick-agrees ls state ins ruled k;
+    power = λ state noise f g k. power-agrees ls keep state noise ruled k;
+  };
 }
 
 -- ---- the design
@@ -109,8 +85,8 @@ lawful = record {
   wires = parts-make-design (circuit 1 shown) (spec 1) (driver 1) (emulator 1) (λ keep. circuit-laws) spec-fits emulator-fits fits refl;
   driver = is-driver ls (driver 1)
       (known ls (driver 1) driver-fits (fits-driver (circuit 1 shown) (spec 1) (driver 1) (emulator 1) fits refl)
-      (record { shows = outputs-fit ls tables tabled; ticks = tick-fits ls tables tabled }))
-      (design 1 shown) (has-driver (circuit 1 shown) (spec 1) (driver 1) (emulator 1) fits);
+      (keeps-states ls (outputs-fit ls ruled) (tick-fits ls ruled) (λ cells ins long known. tick-agrees ls cells ins ruled known) (state-count ls)))
+      (design 1 shown) (has-driver (circuit 1 shown) (spec 1) (driver 1) (emulator 1) refl fits);
 }
 
 -- ---- the script

@@ -4,8 +4,8 @@ use Rattle.knox_words.specs.Bits.{bits}
 use Rattle.knox_words.specs.Ops.{op2_or}
 use Rattle.knox_words.specs.declared.op.Op2.TheVariants.{Eq, And}
 use Rattle.knox_theory.specs.Script.{State, WireItems, Step, Cut, Subsume, Close, HostSections, Script}
-use Rattle.knox_circuit.specs.Circuit.{cells_of}
-use Rattle.knox_circuit.specs.Power.{spread_words}
+use Rattle.circuit_meaning.specs.Circuit.{cells_of}
+use Rattle.circuit_meaning.specs.Power.{spread_words}
 use Rattle.circuit_lines.specs.declared.line.Line.{Line}
 use Rattle.knox_lang.specs.declared.expr.Expr.{Expr}
 use Rattle.knox_lang.specs.declared.expr.Expr.TheVariants as expr

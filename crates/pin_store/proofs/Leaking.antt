@@ -16,10 +16,10 @@ use Rattle.pin_store.proofs.Rows.{leak-real, leak-ideal, stuck-real, stuck-ideal
 -- ---- the leaking variant
 
 pub leak-falsified : Falsifies (design 4 leaked) (hints 4 leaked) 3 (chosen 0 0 0 0 0 0)
-leak-falsified = falsified 4 (lines 4 leaked) patient plain_right 3 (chosen 0 0 0 0 0 0) _ (inr (inl refl)) refl
+leak-falsified = falsified 4 (lines 4 leaked) patient plain_right refl 3 (chosen 0 0 0 0 0 0) _ (inr (inl refl)) refl
 
 pub leak-trace : trace_at 1 (design 4 leaked) (parts 4 leaked) (chosen 0 0 0 0 0 0) ≡ first_leak
-leak-trace = trace-row 4 (lines 4 leaked) patient plain_right 1 (chosen 0 0 0 0 0 0) first_leak refl
+leak-trace = trace-row 4 (lines 4 leaked) patient plain_right refl 1 (chosen 0 0 0 0 0 0) first_leak refl
 
 pub leak-open : Closed (design 4 leaked) (hints 4 leaked) → ⊥
 leak-open closed = closed.never 3 (chosen 0 0 0 0 0 0) leak-falsified
@@ -45,10 +45,10 @@ leak-disagrees agree = leaks-differ (leak-answers agree)
 -- ---- the impatient driver
 
 pub stuck-falsified : Falsifies (impatient_design 4) (impatient_hints 4) 9 (called 0 0 0 9)
-stuck-falsified = falsified 4 (lines 4 shown) impatient plain_right 9 (called 0 0 0 9) _ (inr (inr (inr (inr (inr (inr (inl refl))))))) refl
+stuck-falsified = falsified 4 (lines 4 shown) impatient plain_right refl 9 (called 0 0 0 9) _ (inr (inr (inr (inr (inr (inr (inl refl))))))) refl
 
 pub stuck-trace : trace_at 6 (impatient_design 4) (impatient_parts 4) (called 0 0 0 9) ≡ first_stuck
-stuck-trace = trace-row 4 (lines 4 shown) impatient plain_right 6 (called 0 0 0 9) first_stuck refl
+stuck-trace = trace-row 4 (lines 4 shown) impatient plain_right refl 6 (called 0 0 0 9) first_stuck refl
 
 pub stuck-open : Closed (impatient_design 4) (impatient_hints 4) → ⊥
 stuck-open closed = closed.never 9 (called 0 0 0 9) stuck-falsified

@@ -8,13 +8,15 @@ use Rattle.knox_words.specs.declared.op.Op2.TheVariants.{Eq}
 use Rattle.knox_theory.specs.Device.{Reply, Replied, OutOfTurns, Asking, Ask, Ended, Device}
 use Rattle.knox_theory.specs.Design.{Design}
 use Rattle.circuit_lines.specs.declared.line.Line.{Line}
-use Rattle.knox_circuit.specs.Circuit.{cells_of, output_words, state_after_tick, state_widths, input_widths}
-use Rattle.knox_circuit.specs.Power.{factory_state, state_after_power, states_of, noise_widths, persistent_words, persistent_widths, spread_words}
+use Rattle.circuit_meaning.specs.Circuit.{cells_of, output_words, state_after_tick, state_widths, input_widths}
+use Rattle.circuit_meaning.specs.Power.{factory_state, state_after_power, states_of, noise_widths, persistent_words, persistent_widths, spread_words}
 use Rattle.knox_lang.specs.declared.expr.Stmt.{Stmt}
 use Rattle.driver_machine.specs.Left.{Left, start, ended, reply}
 use Rattle.driver_machine.specs.Moves.{move, move_tests, ticks_left}
 use Rattle.driver_machine.specs.Fits.{fits_config}
-use Rattle.device_design.specs.Meaning.{all_taken, head_result}
+use Rattle.circuit_meaning.specs.Rom.{rom_words}
+use Rattle.device_design.specs.Roms.{rom_part}
+use Rattle.device_design.specs.Meaning.{head_result, persistent_roms}
 use Rattle.pin_store.specs.Store.{set_head, check_head, driver_with}
 
 -- ---- the specification: what is replied, and the fields afterwards
@@ -124,10 +126,10 @@ module _ (w : ℕ) (ls : List Line) (waits : Bool → Reply) where
     device = plain_device silence;
     fields = w ∷ [];
     result = λ o. head_result (slice_get (set_head w ∷ check_head w ∷ []) o);
-    cells = all_taken (state_widths (cells_of ls));
-    persistent = all_taken (persistent_widths (cells_of ls) keep);
+    cells = rom_part (rom_words ls) (state_widths (cells_of ls));
+    persistent = rom_part (persistent_roms ls keep) (persistent_widths (cells_of ls) keep);
     emu = 1 ∷ [];
-    copy = all_taken [];
+    copy = rom_part [] [];
     kept = [];
     start = λ o args cells. start (driver_with more w) o args cells;
     move = λ x. move ls (driver_with more w) x;

@@ -1,5 +1,5 @@
 -- What is computed of the plain segments holds of the store's, and of those of its variants.
-use Rattle.std.proofs.Common.{◌≡◌, ℕ, List, ap, sym, subst, ◌∙◌}
+use Rattle.std.proofs.Common.{◌≡◌, ℕ, List, refl, ap, sym, subst, ◌∙◌}
 use Rattle.knox_words.specs.Lists.{Words}
 use Rattle.knox_theory.specs.declared.event.Event.{Event}
 use Rattle.knox_theory.specs.Design.{Design}
@@ -18,7 +18,7 @@ use Rattle.pin_store.proofs.Plain.{plain_design}
 use Rattle.pin_store.proofs.Driving.{Waiting, patient, impatient}
 use Rattle.pin_store.proofs.Devices.{design-is}
 use Rattle.pin_store.proofs.Hinting.{Valued, said, plain_right}
-use Rattle.pin_store.proofs.Whole.{plain_parts, parts-are}
+use Rattle.pin_store.proofs.Whole.{IsKnown, plain_parts, parts-are}
 
 module _ (w : ℕ) (ls : List Line) (x : Waiting) (h : Valued) where
   abbrev the_design : Design Left
@@ -27,23 +27,23 @@ module _ (w : ℕ) (ls : List Line) (x : Waiting) (h : Valued) where
   abbrev the_script : Script Left
   the_script = script_of (record { lines = ls }) (spec w) (driver_with x.more w) (script_with (said h))
 
-  pub run-row : (g : ℕ) (cs : Words) (end : End) → run (course_at (plain_parts w ls x h) g) cs ≡ end → run (course_at (segments the_design the_script) g) cs ≡ end
-  run-row g cs end e = ap (λ (gs : List Segment). run (course_at gs g) cs) (parts-are w ls x h) ∙ e
+  pub run-row : IsKnown w ls x → (g : ℕ) (cs : Words) (end : End) → run (course_at (plain_parts w ls x h) g) cs ≡ end → run (course_at (segments the_design the_script) g) cs ≡ end
+  run-row known g cs end e = ap (λ (gs : List Segment). run (course_at gs g) cs) (parts-are w ls x h known) ∙ e
 
   -- choices over which the run of a segment fails
-  pub falsified : (n : ℕ) (cs : Words) (g : Segment) → IsAmong g (plain_parts w ls x h) → run g.course cs ≡ Failed n → Falsifies the_design the_script n cs
-  falsified n cs g among e = record { segment = g; listed = subst (λ (gs : List Segment). IsAmong g gs) (sym (parts-are w ls x h)) among; fails = e }
+  pub falsified : IsKnown w ls x → (n : ℕ) (cs : Words) (g : Segment) → IsAmong g (plain_parts w ls x h) → run g.course cs ≡ Failed n → Falsifies the_design the_script n cs
+  falsified known n cs g among e = record { segment = g; listed = subst (λ (gs : List Segment). IsAmong g gs) (sym (parts-are w ls x h known)) among; fails = e }
 
-  pub trace-row : (g : ℕ) (cs : Words) (events : List Event) → trace_at g (plain_design w ls x.waits x.more) (plain_parts w ls x h) cs ≡ events → trace_at g the_design (segments the_design the_script) cs ≡ events
-  trace-row g cs events e = (λ i. trace_at g (design-is w ls x i) (parts-are w ls x h i) cs) ∙ e
+  pub trace-row : IsKnown w ls x → (g : ℕ) (cs : Words) (events : List Event) → trace_at g (plain_design w ls x.waits x.more) (plain_parts w ls x h) cs ≡ events → trace_at g the_design (segments the_design the_script) cs ≡ events
+  trace-row known g cs events e = (λ i. trace_at g (design-is w ls x i) (parts-are w ls x h known i) cs) ∙ e
 
 module _ (h : Valued) (w g : ℕ) (cs : Words) (end : End) where
   pub store-run : run (course_at (plain_parts w (lines w shown) patient h) g) cs ≡ end → run (course_at (parts_with (said h) w shown) g) cs ≡ end
-  store-run e = run-row w (lines w shown) patient h g cs end e
+  store-run e = run-row w (lines w shown) patient h refl g cs end e
 
   pub leak-run : run (course_at (plain_parts w (lines w leaked) patient h) g) cs ≡ end → run (course_at (parts_with (said h) w leaked) g) cs ≡ end
-  leak-run e = run-row w (lines w leaked) patient h g cs end e
+  leak-run e = run-row w (lines w leaked) patient h refl g cs end e
 
 -- by the impatient driver
 pub stuck-run : (w g : ℕ) (cs : Words) (end : End) → run (course_at (plain_parts w (lines w shown) impatient plain_right) g) cs ≡ end → run (course_at (impatient_parts w) g) cs ≡ end
-stuck-run w g cs end e = run-row w (lines w shown) impatient plain_right g cs end e
+stuck-run w g cs end e = run-row w (lines w shown) impatient plain_right refl g cs end e

@@ -1,6 +1,6 @@
 -- Runs of calls by what the driver does as a whole, and not by its moves: these compute.
-use Rattle.std.proofs.Common.{◌≡◌, ℕ, zero, suc, ◌<◌, ◌&&◌, List, [], ◌∷◌, Bool, refl, sym, ◌∙◌, arith}
-use Rattle.knox_words.specs.Lists.{Words}
+use Rattle.std.proofs.Common.{◌≡◌, ℕ, zero, suc, ◌<◌, ◌&&◌, List, [], ◌∷◌, Bool, true, refl, sym, ◌∙◌, arith}
+use Rattle.knox_words.specs.Lists.{Words, fit}
 use Rattle.knox_theory.specs.Device.{Reply}
 use Rattle.knox_theory.specs.Design.{Design, finish, finish_tests}
 use Rattle.knox_theory.specs.Course.{Drove, Course, Check, Tell, Done, takes}
@@ -8,7 +8,12 @@ use Rattle.knox_theory.specs.Script.{HostSections, Script}
 use Rattle.knox_theory.specs.WireSegments.{enters}
 use Rattle.knox_theory.specs.HostSegments.{is_reply, call_course}
 use Rattle.knox_theory.specs.Segments.{Segment, segments, wire_segment, cut_segment, factory_segment, boot_host_segment, rest_segment, wait_segment, call_segment}
+use Rattle.knox_theory.proofs.Basics.{and-left, and-right, and-both}
 use Rattle.circuit_lines.specs.declared.line.Line.{Line}
+use Rattle.circuit_meaning.specs.Circuit.{cells_of, state_widths}
+use Rattle.circuit_meaning.specs.Rom.{rom_words, agree}
+use Rattle.device_design.specs.Roms.{known_fit}
+use Rattle.device_design.proofs.RomLemmas.{part-fits, fits-widths, fits-agree}
 use Rattle.driver_machine.specs.Left.{Left}
 use Rattle.driver_machine.specs.Lawful.{HasOp, HasDriver}
 use Rattle.driver_machine.proofs.Meaning.{start-means}
@@ -43,11 +48,19 @@ module _ (w : ℕ) (ls : List Line) (x : Waiting) where
   has-op (suc zero) lt = record { head = check_head w; at = refl; widths = refl }
   has-op (suc (suc o)) lt = absurd (omega arith)
 
-  has-driver : HasDriver ls (driver_with x.more w) plain
-  has-driver = record {
+  -- what is known of the device words has their widths
+  abbrev pub IsKnown : Type 0
+  IsKnown = known_fit (rom_words ls) (state_widths (cells_of ls)) ≡ true
+
+  has-driver : IsKnown → HasDriver ls (driver_with x.more w) plain
+  has-driver known = record {
     ops = has-op;
-    cells = λ ws f. f.taken;
-    of_cells = λ ws f. record { taken = f; whole = refl };
+    cells = λ ws f.
+        and-both (fit (state_widths (cells_of ls)) ws) (agree (rom_words ls) ws) (fits-widths (rom_words ls) (state_widths (cells_of ls)) ws known f)
+        (fits-agree (rom_words ls) (state_widths (cells_of ls)) ws known f);
+    of_cells = λ ws f.
+        part-fits (rom_words ls) (state_widths (cells_of ls)) ws (and-left (fit (state_widths (cells_of ls)) ws) (agree (rom_words ls) ws) f)
+        (and-right (fit (state_widths (cells_of ls)) ws) (agree (rom_words ls) ws) f);
     drive = λ o args cells. sym (drive-is w ls x o args cells);
     start = λ o args cells. refl;
     move = λ c. refl;
@@ -59,10 +72,10 @@ module _ (w : ℕ) (ls : List Line) (x : Waiting) where
   }
 
   -- the moves come to what the driver does as a whole
-  pub moves-drive : (o : ℕ) (args cells : Words) → plain.device.drive o args cells ≡ (plain.reply (finish plain (plain.start o args cells)).left, (finish plain (plain.start o args cells)).cells)
-  moves-drive o args cells =
-      has-driver.drive o args cells
-      ∙ (sym (start-means ls (driver_with x.more w) o args cells) ∙ sym (finish-means ls (driver_with x.more w) plain has-driver (plain.start o args cells)))
+  pub moves-drive : IsKnown → (o : ℕ) (args cells : Words) → plain.device.drive o args cells ≡ (plain.reply (finish plain (plain.start o args cells)).left, (finish plain (plain.start o args cells)).cells)
+  moves-drive known o args cells =
+      (has-driver known).drive o args cells
+      ∙ (sym (start-means ls (driver_with x.more w) o args cells) ∙ sym (finish-means ls (driver_with x.more w) plain (has-driver known) (plain.start o args cells)))
 
   module _ (h : Valued) where
     abbrev host : HostSections Left
@@ -71,12 +84,12 @@ module _ (w : ℕ) (ls : List Line) (x : Waiting) where
     abbrev script : Script Left
     script = script_by ls h
 
-    call-is : (o : ℕ) → call_course plain host o ≡ whole_call plain host o
-    call-is o i =
+    call-is : IsKnown → (o : ℕ) → call_course plain host o ≡ whole_call plain host o
+    call-is known o i =
         takes plain.fields (λ fields. takes plain.cells.widths (λ cells. takes (plain.device.args o) (λ args. takes plain.kept (λ kept.
         enters (host.idle fields (plain.cells.fill cells) kept)
         (Tell (Drove (finish_tests plain (plain.start o args (plain.cells.fill cells))))
-        (Check (concludes plain host o fields args kept (sym (moves-drive o args (plain.cells.fill cells)) i)) (host.call_hint o) Done))))))
+        (Check (concludes plain host o fields args kept (sym (moves-drive known o args (plain.cells.fill cells)) i)) (host.call_hint o) Done))))))
 
     -- the segments in order of their hint numbers, by the courses of the calls
     abbrev listed : (calls : ℕ → Course) → List Segment
@@ -94,5 +107,5 @@ module _ (w : ℕ) (ls : List Line) (x : Waiting) where
     abbrev pub plain_parts : List Segment
     plain_parts = listed (whole_call plain host)
 
-    pub parts-are : segments (design_of (record { lines = ls }) (spec w) (driver_with x.more w) (emulator w)) (script_of (record { lines = ls }) (spec w) (driver_with x.more w) (script_with (said h))) ≡ plain_parts
-    parts-are = (λ i. segments (design-is w ls x i) (hints-are w ls x.more h i)) ∙ (λ i. listed (λ o. call-is o i))
+    pub parts-are : IsKnown → segments (design_of (record { lines = ls }) (spec w) (driver_with x.more w) (emulator w)) (script_of (record { lines = ls }) (spec w) (driver_with x.more w) (script_with (said h))) ≡ plain_parts
+    parts-are known = (λ i. segments (design-is w ls x i) (hints-are w ls x.more h i)) ∙ (λ i. listed (λ o. call-is known o i))

@@ -1,11 +1,10 @@
 -- Sums of bits up to 2^64 - 1, one summand at a time.
-use Rattle.std.proofs.Common.{◌≡◌, ℕ, zero, suc, ◌+◌, ◌*◌, ◌^◌, ◌%◌, ◌≤◌, List, [], ◌∷◌, ◌++◌, replicate, drop, Bool, if◌then◌else◌, ap, sym, ◌∙◌, arith}
+use Rattle.std.proofs.Common.{◌≡◌, ℕ, zero, suc, ◌+◌, ◌*◌, ◌^◌, ◌%◌, ◌≤◌, List, [], ◌∷◌, ◌++◌, replicate, ap, sym, ◌∙◌, arith}
 use Rattle.std.proofs.Math.Nat.{mul_comm, pow-suc, mod-eq_of_lt}
 use Rattle.std.proofs.Math.Pow.{pow_mono}
 use Rattle.knox_words.specs.Lists.{total}
-use Rattle.knox_circuit.specs.declared.circuit.Cell.{Cell}
-use Rattle.knox_circuit.specs.Circuit.{state_widths}
-use Rattle.knox_circuit.specs.Power.{first_keep, persistent_widths}
+use Rattle.circuit_meaning.specs.declared.port.Cell.{Cell}
+use Rattle.circuit_meaning.specs.Circuit.{state_widths}
 use Rattle.circuit_lines.specs.Nodes.{size}
 use Rattle.script_core.specs.Runs.{counted}
 
@@ -69,13 +68,6 @@ cells-more sum one was whole c left more is e f h =
     let split : total (state_widths left) ≡ total (replicate (size c.index) c.width) + total (state_widths more) = ap (λ z. total (state_widths z)) is ∙ total-append (replicate (size c.index) c.width) (state_widths more) in
     omega arith
 
-pub kept-more : (sum one was whole : ℕ) (c : Cell) (left more : List Cell) (keep others : List Bool) → left ≡ c ∷ more → others ≡ drop 1 keep → one ≡ counted (total (if first_keep keep then replicate (size c.index) c.width else [])) →
-    was ≡ counted (sum + one) → counted (sum + total (persistent_widths left keep)) ≡ counted whole → counted (was + total (persistent_widths more others)) ≡ counted whole
-kept-more sum one was whole c left more keep others is e f g h =
-    let first : List ℕ = if first_keep keep then replicate (size c.index) c.width else [] in
-    let split : total (persistent_widths left keep) ≡ total first + total (persistent_widths more others) = (λ i. total (persistent_widths (is i) keep)) ∙ (total-append first (persistent_widths more (drop 1 keep)) ∙ ap (λ z. total first + total (persistent_widths more z)) (sym e)) in
-    omega arith
-
 -- two sums
 pub sum-two : (x y a b r : ℕ) → a ≡ counted x → b ≡ counted y → r ≡ counted (a + b) → r ≡ counted (x + y)
 sum-two x y a b r ea eb er = omega (arith, ea, eb, er)
@@ -87,4 +79,4 @@ words_of_width w le =
     let one : 1 * 2 ^ w ≡ 2 ^ w = omega arith in
     ap (λ z. z % 4294967296) one ∙ mod-eq_of_lt (omega arith)
 
-pub ruleset sums = (sum-more, sum-more-exact, sum-end, counted-replicate, cells-more, kept-more, power-more)
+pub ruleset sums = (sum-more, sum-more-exact, sum-end, counted-replicate, cells-more, power-more)

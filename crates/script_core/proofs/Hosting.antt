@@ -9,8 +9,9 @@ use Rattle.knox_theory.specs.Course.{Course, Check, Done, takes}
 use Rattle.knox_theory.specs.HostSegments.{is_reply, is_concluded, call_items}
 use Rattle.knox_theory.specs.WireSegments.{enters}
 use Rattle.knox_theory.specs.Lawful.{IsDesign}
-use Rattle.knox_circuit.specs.Circuit.{cells_of, state_widths, state_after_tick}
-use Rattle.knox_circuit.specs.Power.{states_of, noise_widths, factory_state, persistent_words, spread_words, state_after_power}
+use Rattle.circuit_meaning.specs.Circuit.{cells_of, state_widths, state_after_tick}
+use Rattle.circuit_meaning.specs.Power.{states_of, noise_widths, factory_state, persistent_words, spread_words, state_after_power}
+use Rattle.circuit_meaning.specs.Rom.{rom_words, agree}
 use Rattle.knox_lang.specs.Operation.{op_after, op_result}
 use Rattle.knox_lang.specs.WellFormed.{word_widths}
 use Rattle.driver_machine.specs.Drive.{drive}
@@ -19,6 +20,7 @@ use Rattle.driver_machine.specs.declared.reply.Reply.{Reply}
 use Rattle.driver_machine.specs.Configs.{meant, said}
 use Rattle.emu_machine.specs.declared.device.Device.{Device}
 use Rattle.device_design.specs.Meaning.{head_args, design_of, device_of}
+use Rattle.device_design.proofs.RomLemmas.{part-fits}
 use Rattle.script_core.specs.declared.parts.Kind.TheVariants.{Factory, BootHost, Rest, Wait, Call}
 use Rattle.script_core.specs.declared.parts.ScriptParts.{ScriptParts}
 use Rattle.script_core.specs.Hints.{seen, holds, refines, hint_of_kind, script_of}
@@ -38,15 +40,15 @@ at-check r b ok h hint left e same number = e ∙ (λ i. if same i then ToEnd el
 module _ (v : Device) (p : ScriptParts) where
   -- THE ROOT OF `rest`, `wait` AND `call`
 
-  pub idles-short : (ws : List ℕ) (cs : Words) (r : Reach) → DoesNotTakeThree (word_widths v.spec.init) (state_widths (cells_of v.circuit.lines)) ws cs r → (rest : Words → Words → Words → Course) → reach (idling v p ws rest) cs ≡ r
+  pub idles-short : (ws : List ℕ) (cs : Words) (r : Reach) → DoesNotTakeThree (word_widths v.spec.init) (rom_words v.circuit.lines) (state_widths (cells_of v.circuit.lines)) ws cs r → (rest : Words → Words → Words → Course) → reach (idling v p ws rest) cs ≡ r
   idles-short ws cs r t rest = t (λ a b c. enters (holds v.spec.funs p.idle (seen a b [])) (rest a b c))
 
-  pub idles-then : (ws : List ℕ) (cs fields cells args left : Words) → TookThree (word_widths v.spec.init) (state_widths (cells_of v.circuit.lines)) ws cs fields cells args left →
+  pub idles-then : (ws : List ℕ) (cs fields cells args left : Words) → TookThree (word_widths v.spec.init) (rom_words v.circuit.lines) (state_widths (cells_of v.circuit.lines)) ws cs fields cells args left →
       (b : Bool) → holds v.spec.funs p.idle (seen fields cells []) ≡ b → (rest : Words → Words → Words → Course) → reach (idling v p ws rest) cs ≡ (if b then reach (rest fields cells args) left else ToVacuous)
   idles-then ws cs fields cells args left t b idle rest =
-      t.3 (λ a b c. enters (holds v.spec.funs p.idle (seen a b [])) (rest a b c)) ∙ ap (λ b. if b then reach (rest fields cells args) left else ToVacuous) idle
+      t.4 (λ a b c. enters (holds v.spec.funs p.idle (seen a b [])) (rest a b c)) ∙ ap (λ b. if b then reach (rest fields cells args) left else ToVacuous) idle
 
-  pub idles-on : (ws : List ℕ) (cs fields cells args left fields' cells' args' : Words) → TookThree (word_widths v.spec.init) (state_widths (cells_of v.circuit.lines)) ws cs fields cells args left →
+  pub idles-on : (ws : List ℕ) (cs fields cells args left fields' cells' args' : Words) → TookThree (word_widths v.spec.init) (rom_words v.circuit.lines) (state_widths (cells_of v.circuit.lines)) ws cs fields cells args left →
       holds v.spec.funs p.idle (seen fields cells []) ≡ true → fields' ≡ fields → cells' ≡ cells → args' ≡ args → (rest : Words → Words → Words → Course) → reach (idling v p ws rest) cs ≡ reach (rest fields' cells' args') left
   idles-on ws cs fields cells args left fields' cells' args' t idle f c a rest =
       idles-then ws cs fields cells args left t true idle rest ∙ (λ i. reach (rest (sym f i) (sym c i) (sym a i)) left)
@@ -132,17 +134,17 @@ module _ (v : Device) (p : ScriptParts) where
   call-is o = refl
 
   -- the moves of the driver up to its end are the whole body
-  call-concludes : IsDesign (design v) → (o : ℕ) (fields cells args : Words) → o < length v.spec.ops → fit (head_args (slice_get v.spec.ops o)) args ≡ true → fit (state_widths (cells_of v.circuit.lines)) cells ≡ true →
+  call-concludes : IsDesign (design v) → (o : ℕ) (fields cells args : Words) → o < length v.spec.ops → fit (head_args (slice_get v.spec.ops o)) args ≡ true → fit (state_widths (cells_of v.circuit.lines)) cells ≡ true → agree (rom_words v.circuit.lines) cells ≡ true →
       concludes v p o fields cells args ≡ is_concluded (design v) (host v p) o (call_place o fields cells args) (finish (design v) (call_place o fields cells args).config)
   unfolding design_of device_of script_of
-  call-concludes lawful o fields cells args few fit_args fit_cells i =
-      let r = lawful.driver.drive o args cells few fit_args (record { taken = fit_cells; whole = refl }) i in
+  call-concludes lawful o fields cells args few fit_args fit_cells known i =
+      let r = lawful.driver.drive o args cells few fit_args (part-fits (rom_words v.circuit.lines) (state_widths (cells_of v.circuit.lines)) cells fit_cells known) i in
       is_reply r.0 (op_result v.spec o fields args) && holds v.spec.funs p.idle (seen (op_after v.spec o fields args) r.1 [])
 
-  pub call-ends : IsDesign (design v) → (o : ℕ) (fields cells args left : Words) → o < length v.spec.ops → fit (head_args (slice_get v.spec.ops o)) args ≡ true → fit (state_widths (cells_of v.circuit.lines)) cells ≡ true →
+  pub call-ends : IsDesign (design v) → (o : ℕ) (fields cells args left : Words) → o < length v.spec.ops → fit (head_args (slice_get v.spec.ops o)) args ≡ true → fit (state_widths (cells_of v.circuit.lines)) cells ≡ true → agree (rom_words v.circuit.lines) cells ≡ true →
       (r : Reach) (b : Bool) (h : ℕ) → r ≡ (if b then ToEnd else ToFailure h) → b ≡ concludes v p o fields cells args → h ≡ hint_of_kind (Call o) p.sections → r ≡ reach (call_tail o fields cells args) left
-  call-ends lawful o fields cells args left few fit_args fit_cells r b h e same number =
-      at-check r b _ h _ left e (same ∙ call-concludes lawful o fields cells args few fit_args fit_cells) number
+  call-ends lawful o fields cells args left few fit_args fit_cells known r b h e same number =
+      at-check r b _ h _ left e (same ∙ call-concludes lawful o fields cells args few fit_args fit_cells known) number
 
   -- what was concluded, from the driver's reply and the operation's result
   pub concluded : (o : ℕ) (fields cells args seen_args fields' cells' : Words) (answer : Reply) (given : Bits) (same idle : Bool) → seen_args ≡ args →

@@ -1,10 +1,12 @@
 pub mod EachKind
 pub mod Ordered
 pub mod Counting
+pub mod KnownBits
 pub mod Widening
 pub mod Formed
 pub mod Listing
 pub mod Reaching
+pub mod Parting
 pub mod Projections
 pub mod Walking
 pub mod Hosting

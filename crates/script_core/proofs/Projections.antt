@@ -5,8 +5,8 @@ use Rattle.knox_theory.specs.Device.{Ticked, answered}
 use Rattle.knox_theory.specs.Script.{State}
 use Rattle.knox_theory.specs.WireSegments.{same_outs, ticked, is_refined}
 use Rattle.knox_theory.proofs.Basics.{and-left, and-right}
-use Rattle.knox_circuit.specs.Circuit.{cells_of, output_words, state_after_tick}
-use Rattle.knox_circuit.specs.Power.{persistent_words}
+use Rattle.circuit_meaning.specs.Circuit.{cells_of, output_words, state_after_tick}
+use Rattle.circuit_meaning.specs.Power.{persistent_words}
 use Rattle.emu_machine.specs.declared.device.Device.{Device}
 use Rattle.emu_machine.specs.Dialogue.{tick_dialogue}
 use Rattle.emu_machine.specs.Emulator.{emulator_outputs, emulator_after_tick, fields_after_tick}

@@ -1,5 +1,5 @@
 -- How far runs come: what a run comes to, words that are taken one after another, and courses that look at the state of their place alone.
-use Rattle.std.proofs.Common.{◌≡◌, ◌∙◌, ℕ, zero, suc, ◌&&◌, List, [], ◌∷◌, ◌++◌, Bool, true, false, refl, sym, ap, subst, append_assoc, append-nil, length, arith, if◌then◌else◌}
+use Rattle.std.proofs.Common.{◌≡◌, ◌∙◌, ℕ, zero, suc, ◌&&◌, List, [], ◌∷◌, ◌++◌, Option, Bool, true, false, refl, sym, ap, subst, append_assoc, append-nil, length, arith, if◌then◌else◌}
 use Rattle.knox_words.specs.Bits.{Bits}
 use Rattle.knox_words.specs.Lists.{Words, fits, fit}
 use Rattle.knox_theory.specs.Design.{Design}
@@ -7,9 +7,11 @@ use Rattle.knox_theory.specs.Script.{Place, Script}
 use Rattle.knox_theory.specs.Course as course
 use Rattle.knox_theory.specs.Course.{Ticking, Course, Check, Assume, Take, Mark, Tell, Done, run, takes}
 use Rattle.knox_theory.specs.WireSegments.{noted, ticked, same_outs, is_refined, steps}
+use Rattle.circuit_meaning.specs.Rom.{agree}
+use Rattle.device_design.specs.Roms.{unknown, filled}
 use Rattle.script_core.specs.declared.run.Left.{Left}
 use Rattle.script_core.specs.declared.run.Left.TheVariants.{On, Ended}
-use Rattle.script_core.specs.Reached.{Takes, TakesThree}
+use Rattle.script_core.specs.Reached.{Takes, three, TakesThree}
 use Rattle.script_core.specs.Runs.{Reach, Wanting, Misfitting, ToFailure, reach, end_of}
 
 -- what a run comes to is read from how far it comes
@@ -68,37 +70,47 @@ Took ws cs taken left = (fit ws taken ≡ true) × ((rest : Words → Course) �
 abbrev pub DoesNotTake : List ℕ → Words → Reach → Type 0
 DoesNotTake ws cs r = (rest : Words → Course) → reach (takes ws rest) cs ≡ r
 
-abbrev pub TookThree : (ws xs ys : List ℕ) → Words → (first second third : Words) → Words → Type 0
-TookThree ws xs ys words first second third left =
-    (fit ws first ≡ true) × (fit xs second ≡ true) × (fit ys third ≡ true)
-    × ((rest : Words → Words → Words → Course) → reach (takes ws (λ a. takes xs (λ b. takes ys (λ c. rest a b c)))) words ≡ reach (rest first second third) left)
+abbrev pub TookPart : List (Option Bits) → List ℕ → Words → Words → Words → Type 0
+TookPart known ws cs whole left =
+    (fit ws whole ≡ true) × (agree known whole ≡ true) × ((rest : Words → Course) → reach (takes (unknown known ws) (λ taken. rest (filled known taken))) cs ≡ reach (rest whole) left)
 
-abbrev pub DoesNotTakeThree : (ws xs ys : List ℕ) → Words → Reach → Type 0
-DoesNotTakeThree ws xs ys words r =
-    (rest : Words → Words → Words → Course) → reach (takes ws (λ a. takes xs (λ b. takes ys (λ c. rest a b c)))) words ≡ r
+abbrev pub DoesNotTakePart : List (Option Bits) → List ℕ → Words → Reach → Type 0
+DoesNotTakePart known ws cs r = (rest : Words → Course) → reach (takes (unknown known ws) (λ taken. rest (filled known taken))) cs ≡ r
 
-pub three-first : (ws xs ys : List ℕ) (words : Words) (r : Reach) → DoesNotTake ws words r → DoesNotTakeThree ws xs ys words r
-three-first ws xs ys words r t rest = t (λ a. takes xs (λ b. takes ys (λ c. rest a b c)))
+abbrev pub TookThree : (ws : List ℕ) → List (Option Bits) → (xs ys : List ℕ) → Words → (first second third : Words) → Words → Type 0
+TookThree ws known xs ys words first second third left =
+    (fit ws first ≡ true) × (fit xs second ≡ true) × (agree known second ≡ true) × (fit ys third ≡ true)
+    × ((rest : Words → Words → Words → Course) → reach (three ws known xs ys rest) words ≡ reach (rest first second third) left)
 
-pub three-second : (ws xs ys : List ℕ) (words first left : Words) (r : Reach) → Took ws words first left → DoesNotTake xs left r → DoesNotTakeThree ws xs ys words r
-three-second ws xs ys words first left r t u rest = t.1 (λ a. takes xs (λ b. takes ys (λ c. rest a b c))) ∙ u (λ b. takes ys (λ c. rest first b c))
+abbrev pub DoesNotTakeThree : (ws : List ℕ) → List (Option Bits) → (xs ys : List ℕ) → Words → Reach → Type 0
+DoesNotTakeThree ws known xs ys words r = (rest : Words → Words → Words → Course) → reach (three ws known xs ys rest) words ≡ r
 
-pub three-third : (ws xs ys : List ℕ) (words first left second left' third : Words) → Took ws words first left → Took xs left second left' → (l : Left) → Takes ys left' third l → TakesThree ws xs ys words first second third l
-three-third ws xs ys words first left second left' third t u (On l) s = (
+pub three-first : (ws : List ℕ) (known : List (Option Bits)) (xs ys : List ℕ) (words : Words) (r : Reach) → DoesNotTake ws words r → DoesNotTakeThree ws known xs ys words r
+three-first ws known xs ys words r t rest = t (λ a. takes (unknown known xs) (λ b. takes ys (λ c. rest a (filled known b) c)))
+
+pub three-second : (ws : List ℕ) (known : List (Option Bits)) (xs ys : List ℕ) (words first left : Words) (r : Reach) → Took ws words first left → DoesNotTakePart known xs left r → DoesNotTakeThree ws known xs ys words r
+three-second ws known xs ys words first left r t u rest = t.1 (λ a. takes (unknown known xs) (λ b. takes ys (λ c. rest a (filled known b) c))) ∙ u (λ b. takes ys (λ c. rest first b c))
+
+pub three-third : (ws : List ℕ) (known : List (Option Bits)) (xs ys : List ℕ) (words first left second left' third : Words) → Took ws words first left → TookPart known xs left second left' → (l : Left) → Takes ys left' third l →
+    TakesThree ws known xs ys words first second third l
+three-third ws known xs ys words first left second left' third t u (On l) s = (
   t.0,
   u.0,
+  u.1,
   s.0,
-  λ rest. t.1 (λ a. takes xs (λ b. takes ys (λ c. rest a b c))) ∙ (u.1 (λ b. takes ys (λ c. rest first b c)) ∙ s.1 (λ c. rest first second c)),
+  λ rest. t.1 (λ a. takes (unknown known xs) (λ b. takes ys (λ c. rest a (filled known b) c))) ∙ (u.2 (λ b. takes ys (λ c. rest first b c)) ∙ s.1 (λ c. rest first second c)),
 )
-three-third ws xs ys words first left second left' third t u (Ended e) s =
-    λ rest. t.1 (λ a. takes xs (λ b. takes ys (λ c. rest a b c))) ∙ (u.1 (λ b. takes ys (λ c. rest first b c)) ∙ s (λ c. rest first second c))
+three-third ws known xs ys words first left second left' third t u (Ended e) s =
+    λ rest. t.1 (λ a. takes (unknown known xs) (λ b. takes ys (λ c. rest a (filled known b) c))) ∙ (u.2 (λ b. takes ys (λ c. rest first b c)) ∙ s (λ c. rest first second c))
 
--- the same of other lists of widths, which are equal
-pub three-of : (ws xs ys ws' xs' ys' : List ℕ) (words first second third : Words) (l : Left) → ws ≡ ws' → xs ≡ xs' → ys ≡ ys' → TakesThree ws xs ys words first second third l → TakesThree ws' xs' ys' words first second third l
-three-of ws xs ys ws' xs' ys' words first second third l w x y t =
-    subst (λ (z : List ℕ). TakesThree z xs' ys' words first second third l) w
-    (subst (λ (z : List ℕ). TakesThree ws z ys' words first second third l) x
-    (subst (λ (z : List ℕ). TakesThree ws xs z words first second third l) y t))
+-- the same of other lists, which are equal
+pub three-of : (ws : List ℕ) (known : List (Option Bits)) (xs ys ws' : List ℕ) (known' : List (Option Bits)) (xs' ys' : List ℕ) (words first second third : Words) (l : Left) → ws ≡ ws' → known ≡ known' → xs ≡ xs' → ys ≡ ys' →
+    TakesThree ws known xs ys words first second third l → TakesThree ws' known' xs' ys' words first second third l
+three-of ws known xs ys ws' known' xs' ys' words first second third l w k x y t =
+    subst (λ (z : List ℕ). TakesThree z known' xs' ys' words first second third l) w
+    (subst (λ (z : List (Option Bits)). TakesThree ws z xs' ys' words first second third l) k
+    (subst (λ (z : List ℕ). TakesThree ws known z ys' words first second third l) x
+    (subst (λ (z : List ℕ). TakesThree ws known xs z words first second third l) y t)))
 
 -- two ways to go on behind words that are taken, which reach the same
 
@@ -107,6 +119,14 @@ takes-same [] f g cs h = h [] cs
 takes-same (w ∷ ws) f g [] h = refl
 takes-same (w ∷ ws) f g (c ∷ cs) h =
     ap (λ z. if fits w c then z else Misfitting) (takes-same ws (λ more. f (c ∷ more)) (λ more. g (c ∷ more)) cs (λ taken left. h (c ∷ taken) left))
+
+-- the same behind three lists of words
+pub three-same : (ws xs ys : List ℕ) (f g : Words → Words → Words → Course) (cs : Words) → ((a b c left : Words) → reach (f a b c) left ≡ reach (g a b c) left) →
+    reach (takes ws (λ a. takes xs (λ b. takes ys (λ c. f a b c)))) cs ≡ reach (takes ws (λ a. takes xs (λ b. takes ys (λ c. g a b c)))) cs
+three-same ws xs ys f g cs h =
+    takes-same ws (λ a. takes xs (λ b. takes ys (λ c. f a b c))) (λ a. takes xs (λ b. takes ys (λ c. g a b c))) cs (λ a left.
+    takes-same xs (λ b. takes ys (λ c. f a b c)) (λ b. takes ys (λ c. g a b c)) left (λ b left.
+    takes-same ys (λ c. f a b c) (λ c. g a b c) left (λ c left. h a b c left)))
 
 -- a course at places, which hangs on their state alone
 

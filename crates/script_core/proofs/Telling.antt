@@ -11,11 +11,13 @@ use Rattle.knox_theory.specs.Closed.{IsAmong}
 use Rattle.knox_theory.specs.Traces.{drove, branch_word, is_of_call}
 use Rattle.knox_theory.proofs.Basics.{and-left, and-right, and-both}
 use Rattle.knox_theory.proofs.Tracing.{undriven}
-use Rattle.knox_circuit.specs.Circuit.{cells_of, state_widths}
+use Rattle.circuit_meaning.specs.Circuit.{cells_of, state_widths}
+use Rattle.circuit_meaning.specs.Rom.{rom_words}
 use Rattle.knox_lang.specs.WellFormed.{word_widths}
 use Rattle.driver_machine.specs.Left as driver
 use Rattle.driver_machine.specs.Outcomes.{tests_left, tests_met}
 use Rattle.emu_machine.specs.declared.device.Device.{Device}
+use Rattle.device_design.specs.Roms.{unknown, filled}
 use Rattle.device_design.specs.Meaning.{head_args, design_of}
 use Rattle.script_core.specs.declared.parts.Kind.TheVariants.{Factory, BootHost, Rest, Wait, Call, Wire}
 use Rattle.script_core.specs.declared.parts.Root.{Root}
@@ -81,6 +83,9 @@ module _ (v : Device) (p : ScriptParts) (ws : List ℕ) (cs : Words) where
   abbrev idle_in : Words → Words → Bool
   idle_in fields cells = holds v.spec.funs p.idle (seen fields cells [])
 
+  abbrev widths_taken : List ℕ
+  widths_taken = unknown (rom_words v.circuit.lines) (state_widths (cells_of v.circuit.lines))
+
   abbrev third_of : Rests → Words → Words → Words → Course
   third_of rest a b c = enters (idle_in a b) (rest a b c)
 
@@ -88,7 +93,7 @@ module _ (v : Device) (p : ScriptParts) (ws : List ℕ) (cs : Words) where
   second_of rest a b = takes ws (third_of rest a b)
 
   abbrev first_of : Rests → Words → Course
-  first_of rest a = takes (state_widths (cells_of v.circuit.lines)) (second_of rest a)
+  first_of rest a = takes widths_taken (λ b. second_of rest a (filled (rom_words v.circuit.lines) b))
 
   -- behind all words
   abbrev TookAll : (a b c left : Words) → Type 0
@@ -112,13 +117,19 @@ module _ (v : Device) (p : ScriptParts) (ws : List ℕ) (cs : Words) where
   by-third a b left h k (Out r g) = Ends r (λ rest. h rest ∙ g.reached (third_of rest a b)) (λ rest. ap drove (k rest ∙ g.tells (third_of rest a b)))
 
   by-second : (a left : Words) → ((rest : Rests) → reach (idling v p ws rest) cs ≡ reach (first_of rest a) left) → ((rest : Rests) → told (idling v p ws rest) cs ≡ told (first_of rest a) left) →
-      Front (state_widths (cells_of v.circuit.lines)) left → Begun
+      Front widths_taken left → Begun
   by-second a left h k (On b more g) =
-      by-third a b more (λ rest. h rest ∙ g.reached (second_of rest a)) (λ rest. k rest ∙ g.tells (second_of rest a)) (front ws more)
-  by-second a left h k (Out r g) = Ends r (λ rest. h rest ∙ g.reached (second_of rest a)) (λ rest. ap drove (k rest ∙ g.tells (second_of rest a)))
+      by-third a (filled (rom_words v.circuit.lines) b) more
+      (λ rest. h rest ∙ g.reached (λ b. second_of rest a (filled (rom_words v.circuit.lines) b)))
+      (λ rest. k rest ∙ g.tells (λ b. second_of rest a (filled (rom_words v.circuit.lines) b)))
+      (front ws more)
+  by-second a left h k (Out r g) =
+      Ends r
+      (λ rest. h rest ∙ g.reached (λ b. second_of rest a (filled (rom_words v.circuit.lines) b)))
+      (λ rest. ap drove (k rest ∙ g.tells (λ b. second_of rest a (filled (rom_words v.circuit.lines) b))))
 
   by-first : Front (word_widths v.spec.init) cs → Begun
-  by-first (On a left g) = by-second a left (λ rest. g.reached (first_of rest)) (λ rest. g.tells (first_of rest)) (front (state_widths (cells_of v.circuit.lines)) left)
+  by-first (On a left g) = by-second a left (λ rest. g.reached (first_of rest)) (λ rest. g.tells (first_of rest)) (front widths_taken left)
   by-first (Out r g) = Ends r (λ rest. g.reached (first_of rest)) (λ rest. ap drove (g.tells (first_of rest)))
 
   begun : Begun

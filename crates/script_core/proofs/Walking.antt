@@ -1,26 +1,29 @@
 -- The parts of a run: the roots of the segments, a tick, and the checks at a segment's end.
 use Rattle.std.proofs.Common.{◌≡◌, ◌∙◌, ℕ, suc, ◌+◌, ◌*◌, ◌-◌, ◌<◌, ◌≤◌, ◌==◌, List, [], ◌∷◌, ◌++◌, length, arith, Option, Some, None, Bool, true, false, refl, sym, ap, if◌then◌else◌}
+use Rattle.knox_words.specs.Bits.{Bits}
 use Rattle.knox_words.specs.Lists.{Words}
 use Rattle.knox_theory.specs.Design.{Design}
 use Rattle.knox_theory.specs.Script.{State, Place, Script}
 use Rattle.knox_theory.specs.Course.{Course, takes}
 use Rattle.knox_theory.specs.WireSegments.{Target, ToCut, noted, ticked, same_outs, is_refined, steps, course, enters, find, passed, never, wire_places, wire_course}
-use Rattle.knox_circuit.specs.Circuit.{cells_of, state_widths, input_widths}
-use Rattle.knox_circuit.specs.Power.{states_of, noise_widths, persistent_widths, spread_words, state_after_power}
+use Rattle.circuit_meaning.specs.Circuit.{cells_of, state_widths, input_widths}
+use Rattle.circuit_meaning.specs.Power.{states_of, noise_widths, persistent_widths, spread_words, state_after_power}
+use Rattle.circuit_meaning.specs.Rom.{rom_words}
 use Rattle.knox_lang.specs.declared.expr.Expr.{Expr}
 use Rattle.knox_lang.specs.declared.parts.Fun.{Fun}
 use Rattle.knox_lang.specs.WellFormed.{word_widths}
 use Rattle.emu_machine.specs.declared.device.Device.{Device}
 use Rattle.emu_machine.specs.Emulator.{emulator_after_power}
-use Rattle.device_design.specs.Meaning.{design_of, device_of}
+use Rattle.device_design.specs.Roms.{unknown, filled}
+use Rattle.device_design.specs.Meaning.{persistent_roms, design_of, device_of}
 use Rattle.script_core.specs.declared.parts.Act.{Act}
 use Rattle.script_core.specs.declared.parts.Act.TheVariants as act
 use Rattle.script_core.specs.declared.parts.Item.{Item}
 use Rattle.script_core.specs.declared.parts.ScriptParts.{ScriptParts}
 use Rattle.script_core.specs.Hints.{seen, holds, refines, item_of, items_of, wire_items, named_or, cut_named, script_of}
-use Rattle.script_core.specs.Reached.{design, script, passes, here, course_from, ticks_from, wire_run, cut_run, powered}
+use Rattle.script_core.specs.Reached.{design, script, passes, here, course_from, ticks_from, wire_run, cut_run, three, powered}
 use Rattle.script_core.specs.Runs.{Reach, ToEnd, ToVacuous, ToFailure, reach}
-use Rattle.script_core.proofs.Reaching.{Took, DoesNotTake, TookThree, DoesNotTakeThree, IsBlind, tick_with, steps-blind}
+use Rattle.script_core.proofs.Reaching.{Took, DoesNotTake, TookThree, DoesNotTakeThree, three-same, IsBlind, tick_with, steps-blind}
 
 -- THE CHECK OF A SUBSUME looks at the state alone: at the condition of the cut that it names
 
@@ -124,21 +127,24 @@ module _ (v : Device) (p : ScriptParts) where
   abbrev widths_of_kept : List ℕ
   widths_of_kept = persistent_widths (cells_of v.circuit.lines) v.driver.keep
 
+  abbrev known_of_kept : List (Option Bits)
+  known_of_kept = persistent_roms v.circuit.lines v.driver.keep
+
   abbrev widths_of_noise : List ℕ
   widths_of_noise = noise_widths (states_of v.circuit.lines) v.driver.keep
 
   abbrev refined_in : Words → Words → Bool
   refined_in fields kept = refines v.spec.funs (cells_of v.circuit.lines) v.driver.keep p.refine fields kept
 
-  pub powers-short : (cs : Words) (r : Reach) → DoesNotTakeThree widths_of_fields widths_of_kept widths_of_noise cs r → (rest : Words → Words → Words → Course) → reach (powered v p rest) cs ≡ r
+  pub powers-short : (cs : Words) (r : Reach) → DoesNotTakeThree widths_of_fields known_of_kept widths_of_kept widths_of_noise cs r → (rest : Words → Words → Words → Course) → reach (powered v p rest) cs ≡ r
   powers-short cs r t rest = t (λ a b c. enters (refined_in a b) (rest a b c))
 
-  pub powers-then : (cs fields kept noise left : Words) → TookThree widths_of_fields widths_of_kept widths_of_noise cs fields kept noise left → (b : Bool) → refined_in fields kept ≡ b →
+  pub powers-then : (cs fields kept noise left : Words) → TookThree widths_of_fields known_of_kept widths_of_kept widths_of_noise cs fields kept noise left → (b : Bool) → refined_in fields kept ≡ b →
       (rest : Words → Words → Words → Course) → reach (powered v p rest) cs ≡ (if b then reach (rest fields kept noise) left else ToVacuous)
   powers-then cs fields kept noise left t b refined rest =
-      t.3 (λ a b c. enters (refined_in a b) (rest a b c)) ∙ ap (λ b. if b then reach (rest fields kept noise) left else ToVacuous) refined
+      t.4 (λ a b c. enters (refined_in a b) (rest a b c)) ∙ ap (λ b. if b then reach (rest fields kept noise) left else ToVacuous) refined
 
-  pub powers-on : (cs fields kept noise left fields' kept' noise' : Words) → TookThree widths_of_fields widths_of_kept widths_of_noise cs fields kept noise left → refined_in fields kept ≡ true →
+  pub powers-on : (cs fields kept noise left fields' kept' noise' : Words) → TookThree widths_of_fields known_of_kept widths_of_kept widths_of_noise cs fields kept noise left → refined_in fields kept ≡ true →
       fields' ≡ fields → kept' ≡ kept → noise' ≡ noise → (rest : Words → Words → Words → Course) → reach (powered v p rest) cs ≡ reach (rest fields' kept' noise') left
   powers-on cs fields kept noise left fields' kept' noise' t refined f k n rest =
       powers-then cs fields kept noise left t true refined rest ∙ (λ i. reach (rest (sym f i) (sym k i) (sym n i)) left)
@@ -153,22 +159,37 @@ module _ (v : Device) (p : ScriptParts) where
   }
 
   abbrev wire_from : Words → Words → Words → Course
-  wire_from fields kept noise = course_from v p (wire_items p) (record { state = started_in fields kept noise; taken = fields ++ (kept ++ (noise ++ [])) })
+  wire_from fields kept noise = course_from v p (wire_items p) (here (started_in fields kept noise))
 
-  pub wire-powers : wire_run v p ≡ powered v p wire_from
+  -- where the words that were taken are noted, at which the items don't look
+  abbrev wire_noted : Words → Words → Words → Course
+  wire_noted fields taken noise =
+      enters (refined_in fields (filled known_of_kept taken))
+      (course_from v p (wire_items p) (record { state = started_in fields (filled known_of_kept taken) noise; taken = fields ++ (taken ++ (noise ++ [])) }))
+
+  abbrev wire_plain : Words → Words → Words → Course
+  wire_plain fields taken noise = enters (refined_in fields (filled known_of_kept taken)) (wire_from fields (filled known_of_kept taken) noise)
+
+  wire-notes : wire_run v p ≡ takes widths_of_fields (λ a. takes (unknown known_of_kept widths_of_kept) (λ b. takes widths_of_noise (λ c. wire_noted a b c)))
   unfolding design_of device_of script_of
-  wire-powers = refl
+  wire-notes = refl
+
+  wire-powers : (cs : Words) → reach (wire_run v p) cs ≡ reach (powered v p wire_from) cs
+  wire-powers cs =
+      ap (λ t. reach t cs) wire-notes
+      ∙ three-same widths_of_fields (unknown known_of_kept widths_of_kept) widths_of_noise wire_noted wire_plain cs (λ a b c left.
+      ap (λ z. if refined_in a (filled known_of_kept b) then z else ToVacuous)
+      ((course-blind v p (wire_items p)).same (record { state = started_in a (filled known_of_kept b) c; taken = a ++ (b ++ (c ++ [])) }) (here (started_in a (filled known_of_kept b) c)) left refl))
 
   pub attach-short : (cs : Words) (r : Reach) → ((rest : Words → Words → Words → Course) → reach (powered v p rest) cs ≡ r) → reach (wire_run v p) cs ≡ r
-  attach-short cs r ended = ap (λ t. reach t cs) wire-powers ∙ ended wire_from
+  attach-short cs r ended = wire-powers cs ∙ ended wire_from
 
   pub attach-on : (cs fields kept noise cells emu left : Words) → ((rest : Words → Words → Words → Course) → reach (powered v p rest) cs ≡ reach (rest fields kept noise) left) →
       cells ≡ state_after_power v.circuit.lines v.driver.keep (spread_words (cells_of v.circuit.lines) v.driver.keep kept) noise → emu ≡ emulator_after_power v.emulator noise →
       reach (wire_run v p) cs ≡ reach (course_from v p (wire_items p) (here (record { fields = fields; cells = cells; emu = emu; copy = [] }))) left
   attach-on cs fields kept noise cells emu left on c e =
-      ap (λ t. reach t cs) wire-powers ∙ (on wire_from
-      ∙ (course-blind v p (wire_items p)).same (record { state = started_in fields kept noise; taken = fields ++ (kept ++ (noise ++ [])) }) (here (record { fields = fields; cells = cells; emu = emu; copy = [] })) left
-      (λ i. record { fields = fields; cells = sym c i; emu = sym e i; copy = [] }))
+      wire-powers cs ∙ (on wire_from
+      ∙ (λ i. reach (course_from v p (wire_items p) (here (record { fields = fields; cells = sym c i; emu = sym e i; copy = [] }))) left))
 
 -- THE ROOT OF A CUT
 
@@ -176,21 +197,36 @@ module _ (v : Device) (p : ScriptParts) (e : Expr) (items : List Item) where
   abbrev cut_state : Words → Words → Words → State
   cut_state fields cells emu = record { fields = fields; cells = cells; emu = emu; copy = [] }
 
+  abbrev known_of_cells : List (Option Bits)
+  known_of_cells = rom_words v.circuit.lines
+
+  abbrev widths_of_cells : List ℕ
+  widths_of_cells = state_widths (cells_of v.circuit.lines)
+
   abbrev cut_from : Words → Words → Words → Course
-  cut_from fields cells emu =
-      enters (holds v.spec.funs e (seen fields cells emu)) (course_from v p items (record { state = cut_state fields cells emu; taken = fields ++ (cells ++ (emu ++ [])) }))
+  cut_from fields cells emu = enters (holds v.spec.funs e (seen fields cells emu)) (course_from v p items (here (cut_state fields cells emu)))
 
-  cut-takes : cut_run v p e items ≡ takes (word_widths v.spec.init) (λ a. takes (state_widths (cells_of v.circuit.lines)) (λ b. takes (word_widths v.emulator.init) (λ c. cut_from a b c)))
+  abbrev cut_noted : Words → Words → Words → Course
+  cut_noted fields taken emu =
+      enters (holds v.spec.funs e (seen fields (filled known_of_cells taken) emu))
+      (course_from v p items (record { state = cut_state fields (filled known_of_cells taken) emu; taken = fields ++ (taken ++ (emu ++ [])) }))
+
+  cut-notes : cut_run v p e items ≡ takes (word_widths v.spec.init) (λ a. takes (unknown known_of_cells widths_of_cells) (λ b. takes (word_widths v.emulator.init) (λ c. cut_noted a b c)))
   unfolding design_of device_of
-  cut-takes = refl
+  cut-notes = refl
 
-  pub enter-short : (cs : Words) (r : Reach) → DoesNotTakeThree (word_widths v.spec.init) (state_widths (cells_of v.circuit.lines)) (word_widths v.emulator.init) cs r → reach (cut_run v p e items) cs ≡ r
-  enter-short cs r t = ap (λ t. reach t cs) cut-takes ∙ t cut_from
+  cut-takes : (cs : Words) → reach (cut_run v p e items) cs ≡ reach (three (word_widths v.spec.init) known_of_cells widths_of_cells (word_widths v.emulator.init) cut_from) cs
+  cut-takes cs =
+      ap (λ t. reach t cs) cut-notes
+      ∙ three-same (word_widths v.spec.init) (unknown known_of_cells widths_of_cells) (word_widths v.emulator.init) cut_noted (λ a b c. cut_from a (filled known_of_cells b) c) cs (λ a b c left.
+      ap (λ z. if holds v.spec.funs e (seen a (filled known_of_cells b) c) then z else ToVacuous)
+      ((course-blind v p items).same (record { state = cut_state a (filled known_of_cells b) c; taken = a ++ (b ++ (c ++ [])) }) (here (cut_state a (filled known_of_cells b) c)) left refl))
+
+  pub enter-short : (cs : Words) (r : Reach) → DoesNotTakeThree (word_widths v.spec.init) known_of_cells widths_of_cells (word_widths v.emulator.init) cs r → reach (cut_run v p e items) cs ≡ r
+  enter-short cs r t = cut-takes cs ∙ t cut_from
 
   -- what comes where all words are taken
-  pub enter-on : (cs fields cells emu left : Words) → TookThree (word_widths v.spec.init) (state_widths (cells_of v.circuit.lines)) (word_widths v.emulator.init) cs fields cells emu left →
+  pub enter-on : (cs fields cells emu left : Words) → TookThree (word_widths v.spec.init) known_of_cells widths_of_cells (word_widths v.emulator.init) cs fields cells emu left →
       (b : Bool) → b ≡ holds v.spec.funs e (seen fields cells emu) → (st : State) → st ≡ cut_state fields cells emu → reach (cut_run v p e items) cs ≡ (if b then reach (course_from v p items (here st)) left else ToVacuous)
   enter-on cs fields cells emu left t b is st s =
-      ap (λ t. reach t cs) cut-takes ∙ (t.3 cut_from
-      ∙ (ap (λ c. if c then reach (course_from v p items (record { state = cut_state fields cells emu; taken = fields ++ (cells ++ (emu ++ [])) })) left else ToVacuous) (sym is)
-      ∙ ap (λ z. if b then z else ToVacuous) ((course-blind v p items).same (record { state = cut_state fields cells emu; taken = fields ++ (cells ++ (emu ++ [])) }) (here st) left (sym s))))
+      cut-takes cs ∙ (t.4 cut_from ∙ (λ i. if sym is i then reach (course_from v p items (here (sym s i))) left else ToVacuous))

@@ -2,9 +2,10 @@
 use Rattle.std.specs.Prelude.{ℕ, zero, suc, ◌+◌, ◌*◌, ◌-◌, ◌==◌, ◌&&◌, List, [], ◌∷◌, ◌++◌, length, slice_get, Option, Some, None, Bool, true, false, if◌then◌else◌}
 use Rattle.knox_words.specs.Bits.{Bits}
 use Rattle.knox_theory.specs.Script.{WireItems, Step, Cut, Subsume, Close, HostSections, Script}
-use Rattle.knox_circuit.specs.declared.circuit.Cell.{Cell}
-use Rattle.knox_circuit.specs.Circuit.{Circuit, cells_of}
-use Rattle.knox_circuit.specs.Power.{spread_words}
+use Rattle.circuit_meaning.specs.declared.port.Cell.{Cell}
+use Rattle.knox_circuit.specs.Circuit.{Circuit}
+use Rattle.circuit_meaning.specs.Circuit.{cells_of}
+use Rattle.circuit_meaning.specs.Power.{spread_words}
 use Rattle.knox_lang.specs.declared.expr.Expr.{Expr}
 use Rattle.knox_lang.specs.declared.parts.Fun.{Fun}
 use Rattle.knox_lang.specs.declared.parts.SpecParts.{SpecParts}

@@ -1,6 +1,7 @@
 -- What each part of a run says of how far the whole run comes: either it comes to what is left of its course with the words that are left, or it ends.
 -- The project's own; nobody has to believe it.
-use Rattle.std.specs.Prelude.{◌≡◌, ℕ, ◌+◌, ◌&&◌, List, [], Option, Some, None, Bool, true}
+use Rattle.std.specs.Prelude.{◌≡◌, ℕ, ◌+◌, ◌&&◌, List, [], ◌∷◌, Option, Some, None, Bool, true}
+use Rattle.knox_words.specs.Bits.{Bits}
 use Rattle.knox_words.specs.Lists.{Words, fit}
 use Rattle.knox_theory.specs.Design.{Design}
 use Rattle.knox_theory.specs.Script.{State, Place, HostSections, Script}
@@ -8,14 +9,16 @@ use Rattle.knox_theory.specs.Course.{Course, Done, takes}
 use Rattle.knox_theory.specs.WireSegments.{steps, course, enters, wire_course, cut_course, subsumes}
 use Rattle.knox_theory.specs.HostSegments.{is_reply, factory_course, boot_host_course, rest_course, wait_course, call_course}
 use Rattle.knox_theory.specs.Segments.{factory_bits, boot_host_bits, idle_bits, call_bits, wire_bits, cut_bits}
-use Rattle.knox_circuit.specs.Circuit.{cells_of, state_widths}
-use Rattle.knox_circuit.specs.Power.{states_of, noise_widths, persistent_widths, spread_words, state_after_power}
+use Rattle.circuit_meaning.specs.Circuit.{cells_of, state_widths}
+use Rattle.circuit_meaning.specs.Power.{states_of, noise_widths, persistent_widths, spread_words, state_after_power}
+use Rattle.circuit_meaning.specs.Rom.{rom_words, agree}
 use Rattle.knox_lang.specs.declared.expr.Expr.{Expr}
 use Rattle.knox_lang.specs.Operation.{op_after, op_result}
 use Rattle.knox_lang.specs.WellFormed.{word_widths}
 use Rattle.driver_machine.specs.Drive.{drive}
 use Rattle.emu_machine.specs.declared.device.Device.{Device}
-use Rattle.device_design.specs.Meaning.{design_of}
+use Rattle.device_design.specs.Roms.{unknown, filled}
+use Rattle.device_design.specs.Meaning.{persistent_roms, design_of}
 use Rattle.driver_machine.specs.Left as driver
 use Rattle.script_core.specs.declared.parts.Item.{Item}
 use Rattle.script_core.specs.declared.parts.Kind.{Kind}
@@ -113,19 +116,33 @@ abbrev pub Leads : Device → Course → Words → State → (State → Course) 
 Leads v t cs st next (On left) = (fit (state_widths (cells_of v.circuit.lines)) st.cells ≡ true) × (reach t cs ≡ reach (next st) left.now)
 Leads v t cs st next (Ended p) = reach t cs ≡ reach_of p
 
--- the same of three lists of widths, one after another
-abbrev pub TakesThree : (ws xs ys : List ℕ) → Words → (first second third : Words) → Left → Type 0
-TakesThree ws xs ys words first second third (On left) =
-    (fit ws first ≡ true) × (fit xs second ≡ true) × (fit ys third ≡ true)
-    × ((rest : Words → Words → Words → Course) → reach (takes ws (λ a. takes xs (λ b. takes ys (λ c. rest a b c)))) words ≡ reach (rest first second third) left.now)
-TakesThree ws xs ys words first second third (Ended p) =
-    (rest : Words → Words → Words → Course) → reach (takes ws (λ a. takes xs (λ b. takes ys (λ c. rest a b c)))) words ≡ reach_of p
+-- taking words of these widths but for those that are known: with these in their places all words fit, and the run goes on with all
+abbrev pub TakesPart : List (Option Bits) → List ℕ → Words → Words → Left → Type 0
+TakesPart known ws cs whole (On left) =
+    (fit ws whole ≡ true) × (agree known whole ≡ true) × ((rest : Words → Course) → reach (takes (unknown known ws) (λ taken. rest (filled known taken))) cs ≡ reach (rest whole) left.now)
+TakesPart known ws cs whole (Ended p) = (rest : Words → Course) → reach (takes (unknown known ws) (λ taken. rest (filled known taken))) cs ≡ reach_of p
+
+-- what is known of the first place
+abbrev pub first_known : List (Option Bits) → Option Bits
+first_known [] = None
+first_known (o ∷ os) = o
+
+-- three lists of words are taken, one after another; of the second some are known
+abbrev pub three : (ws : List ℕ) → List (Option Bits) → (xs ys : List ℕ) → (Words → Words → Words → Course) → Course
+three ws known xs ys rest = takes ws (λ a. takes (unknown known xs) (λ b. takes ys (λ c. rest a (filled known b) c)))
+
+abbrev pub TakesThree : (ws : List ℕ) → List (Option Bits) → (xs ys : List ℕ) → Words → (first second third : Words) → Left → Type 0
+TakesThree ws known xs ys words first second third (On left) =
+    (fit ws first ≡ true) × (fit xs second ≡ true) × (agree known second ≡ true) × (fit ys third ≡ true)
+    × ((rest : Words → Words → Words → Course) → reach (three ws known xs ys rest) words ≡ reach (rest first second third) left.now)
+TakesThree ws known xs ys words first second third (Ended p) =
+    (rest : Words → Words → Words → Course) → reach (three ws known xs ys rest) words ≡ reach_of p
 
 -- the root of `wire` and `boot-host`: fields, persistent and noise words are taken, and `refine` holds of the first two
 abbrev pub powered : Device → ScriptParts → (Words → Words → Words → Course) → Course
 powered v p rest =
-    takes (word_widths v.spec.init) (λ fields. takes (persistent_widths (cells_of v.circuit.lines) v.driver.keep) (λ kept. takes (noise_widths (states_of v.circuit.lines) v.driver.keep) (λ noise.
-    enters (refines v.spec.funs (cells_of v.circuit.lines) v.driver.keep p.refine fields kept) (rest fields kept noise))))
+    three (word_widths v.spec.init) (persistent_roms v.circuit.lines v.driver.keep) (persistent_widths (cells_of v.circuit.lines) v.driver.keep) (noise_widths (states_of v.circuit.lines) v.driver.keep) (λ fields kept noise.
+    enters (refines v.spec.funs (cells_of v.circuit.lines) v.driver.keep p.refine fields kept) (rest fields kept noise))
 
 -- the run goes on with such words, and the device words are those after the power-cycle
 abbrev pub Powers : Device → ScriptParts → Words → (fields kept noise cells : Words) → Left → Type 0
@@ -138,13 +155,14 @@ Powers v p words fields kept noise cells (Ended e) = (rest : Words → Words →
 -- the root of `rest`, `wait` and `call`: fields, device words and arguments are taken, and `idle` holds of the first two
 abbrev pub idling : Device → ScriptParts → List ℕ → (Words → Words → Words → Course) → Course
 idling v p ws rest =
-    takes (word_widths v.spec.init) (λ fields. takes (state_widths (cells_of v.circuit.lines)) (λ cells. takes ws (λ args.
-    enters (holds v.spec.funs p.idle (seen fields cells [])) (rest fields cells args))))
+    three (word_widths v.spec.init) (rom_words v.circuit.lines) (state_widths (cells_of v.circuit.lines)) ws (λ fields cells args.
+    enters (holds v.spec.funs p.idle (seen fields cells [])) (rest fields cells args))
 
 -- the run goes on with such words
 abbrev pub Idles : Device → ScriptParts → List ℕ → Words → (fields cells args : Words) → Left → Type 0
 Idles v p ws words fields cells args (On left) =
     (fit (state_widths (cells_of v.circuit.lines)) cells ≡ true)
+    × (agree (rom_words v.circuit.lines) cells ≡ true)
     × (fit ws args ≡ true)
     × ((rest : Words → Words → Words → Course) → reach (idling v p ws rest) words ≡ reach (rest fields cells args) left.now)
 Idles v p ws words fields cells args (Ended e) = (rest : Words → Words → Words → Course) → reach (idling v p ws rest) words ≡ reach_of e

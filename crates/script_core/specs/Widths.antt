@@ -1,9 +1,28 @@
--- The bits that items take, for the sums of the code. The project's own; no public clause cites it.
+-- The bits that words and items take, for the sums of the code. The project's own; no public clause cites it.
 use Rattle.std.specs.Prelude.{ℕ, ◌+◌, ◌*◌, List, [], ◌∷◌, map, Option, Some, None}
-use Rattle.knox_circuit.specs.declared.circuit.Port.{Port}
+use Rattle.knox_words.specs.Bits.{Bits}
+use Rattle.circuit_meaning.specs.declared.port.Port.{Port}
+use Rattle.circuit_meaning.specs.Circuit.{cells_of, state_widths}
+use Rattle.circuit_meaning.specs.Power.{persistent_widths}
+use Rattle.circuit_meaning.specs.Rom.{rom_words}
+use Rattle.emu_machine.specs.declared.device.Device.{Device}
+use Rattle.device_design.specs.Roms.{unknown}
+use Rattle.device_design.specs.Meaning.{persistent_roms}
 use Rattle.script_core.specs.declared.parts.Act.{Act}
 use Rattle.script_core.specs.declared.parts.Act.TheVariants as act
 use Rattle.script_core.specs.declared.parts.Item.{Item}
+
+-- the widths of the device words that are taken, and of the persistent words that are: of those that are no ROM words
+abbrev pub cells_taken : Device → List ℕ
+cells_taken v = unknown (rom_words v.circuit.lines) (state_widths (cells_of v.circuit.lines))
+
+abbrev pub kept_taken : Device → List ℕ
+kept_taken v = unknown (persistent_roms v.circuit.lines v.driver.keep) (persistent_widths (cells_of v.circuit.lines) v.driver.keep)
+
+-- the bits of a word, which aren't taken where it is known
+abbrev pub bits_unless_known : Option Bits → ℕ → ℕ
+bits_unless_known None w = w
+bits_unless_known (Some v) w = 0
 
 abbrev pub port_widths : List Port → List ℕ
 port_widths ports = map (λ (p : Port). p.width) ports

@@ -1,8 +1,8 @@
 //! The bits that the widest run of a segment takes.
-ghost use Rattle.std.specs.Prelude.{◌≡◌, ◌+◌, ◌^◌, [], length, replicate, slice_get, Some, if◌then◌else◌};
+ghost use Rattle.std.specs.Prelude.{◌≡◌, ◌+◌, ◌^◌, [], length, replicate, slice_get, Some, true, if◌then◌else◌};
 ghost use Rattle.knox_words.specs.Lists.{total};
-ghost use Rattle.knox_circuit.specs.Circuit.{cells_of, state_widths, input_widths};
-ghost use Rattle.knox_circuit.specs.Power.{first_keep, persistent_widths, noise_widths, states_of};
+ghost use Rattle.circuit_meaning.specs.Circuit.{state_widths, input_widths};
+ghost use Rattle.circuit_meaning.specs.Power.{persistent_widths, noise_widths, states_of};
 ghost use Rattle.circuit_lines.specs.Nodes.{size};
 ghost use Rattle.knox_lang.specs.Operation.{arg_widths};
 ghost use Rattle.knox_lang.specs.WellFormed.{word_widths};
@@ -11,11 +11,13 @@ ghost use Rattle.script_core.specs.declared.parts.Kind.TheVariants.{Wire};
 ghost use Rattle.script_core.specs.declared.parts.Root.TheVariants.{OfCut};
 ghost use Rattle.script_core.specs.Hints.{ops_of, wire_items, behind_cut};
 ghost use Rattle.script_core.specs.Reached.{kind_bits, root_bits};
-ghost use Rattle.script_core.specs.Widths.{port_widths, tick_count, items_bits};
+ghost use Rattle.script_core.specs.Widths.{cells_taken, kept_taken, bits_unless_known, port_widths, tick_count, items_bits};
+ghost use Rattle.device_design.specs.Roms.{unknown, known_fit, kept_roms};
 ghost use Rattle.script_core.specs.Runs.{segments_of, bits_at, counted};
 
 use crate::parts::{Act, Item, Kind, Root, SegmentNo};
 use crate::script::Script;
+use crate::spread::split_cell;
 use crate::widths::{doublings, keeps_first, others};
 use emu_machine::Device;
 use knox_circuit::{Cell, Circuit, Port};
@@ -48,9 +50,9 @@ fn bits_of_ports(ports: &[Port]) -> u64
     sum
 }
 
-/// Two to a power.
+/// Two to a power, up to 2^64 - 1.
 #[tactic(auto, using(crate::proofs::Counting::sums))]
-fn power_of_two(doublings: u8) -> u64
+pub(crate) fn power_of_two(doublings: u8) -> u64
     ensures { result ≡ counted (2 ^ doublings) }
 {
     let mut power = 1u64;
@@ -68,43 +70,72 @@ fn bits_of_cell(cell: &Cell) -> u64
     power_of_two(doublings(cell.index)).saturating_mul(u64::from(cell.width))
 }
 
-/// The bits of the cells.
-#[tactic(auto, using(crate::proofs::Counting::sums))]
-fn bits_of_cells(cells: &[Cell]) -> u64
-    ensures { result ≡ counted (total (state_widths cells.now)) }
+/// The bits of a word that are taken: none where it is known.
+fn bits_unless_known(known: Option<Word>, width: u8) -> u64
+    ensures { result ≡ bits_unless_known known width }
+{
+    match known {
+        None => u64::from(width),
+        Some(_) => 0,
+    }
+}
+
+/// The bits of the words of one width that are taken: of those that aren't known.
+fn bits_of_unknown(known: &[Option<Word>], width: u8) -> u64
+    ensures { result ≡ counted (total (unknown known.now (replicate (length known.now) width))) }
 {
     let mut sum = 0u64;
-    let mut left = cells;
-    while let Some((cell, more)) = left.split_first() {
-        sum = sum.saturating_add(bits_of_cell(cell));
+    let mut left = known;
+    while let Some((first, more)) = left.split_first() {
+        sum = sum.saturating_add(bits_unless_known(*first, width));
         left = more;
     }
     sum
 }
 
-/// The bits of the first cell, if it is kept.
-fn bits_if_kept(cell: &Cell, keep: &[bool]) -> u64
-    ensures { result ≡ counted (total (if first_keep keep.now then replicate (size cell.now.index) cell.now.width else [])) }
+/// The bits of the cells that are taken: of the words that aren't known.
+fn bits_of_cells(cells: &[Cell], known: &[Option<Word>]) -> u64
+    requires { known_fit known.now (state_widths cells.now) ≡ true }
+    ensures { result ≡ counted (total (unknown known.now (state_widths cells.now))) }
 {
-    if keeps_first(keep) {
-        bits_of_cell(cell)
+    let mut sum = 0u64;
+    let mut cells_left = cells;
+    let mut left = known;
+    while let Some((cell, more)) = cells_left.split_first() {
+        let (own, rest) = split_cell(cell, left);
+        sum = sum.saturating_add(bits_of_unknown(own, cell.width));
+        left = rest;
+        cells_left = more;
+    }
+    sum
+}
+
+/// The bits of words of one width that are taken, if their cell is kept.
+fn bits_if_kept(kept: bool, known: &[Option<Word>], width: u8) -> u64
+    ensures { result ≡ counted (total (if kept then unknown known.now (replicate (length known.now) width) else [])) }
+{
+    if kept {
+        bits_of_unknown(known, width)
     } else {
         0
     }
 }
 
-/// The bits of the cells that are kept over a power-cycle.
-#[tactic(auto, using(crate::proofs::Counting::sums))]
-fn bits_of_kept(cells: &[Cell], keep: &[bool]) -> u64
-    ensures { result ≡ counted (total (persistent_widths cells.now keep.now)) }
+/// The bits that are taken of the cells that are kept over a power-cycle.
+fn bits_of_kept(cells: &[Cell], keep: &[bool], known: &[Option<Word>]) -> u64
+    requires { known_fit known.now (state_widths cells.now) ≡ true }
+    ensures { result ≡ counted (total (unknown (kept_roms cells.now keep.now known.now) (persistent_widths cells.now keep.now))) }
 {
     let mut sum = 0u64;
-    let mut left = cells;
-    let mut kept = keep;
-    while let Some((cell, more)) = left.split_first() {
-        sum = sum.saturating_add(bits_if_kept(cell, kept));
-        left = more;
-        kept = others(kept);
+    let mut cells_left = cells;
+    let mut keep_left = keep;
+    let mut left = known;
+    while let Some((cell, more)) = cells_left.split_first() {
+        let (own, rest) = split_cell(cell, left);
+        sum = sum.saturating_add(bits_if_kept(keeps_first(keep_left), own, cell.width));
+        left = rest;
+        keep_left = others(keep_left);
+        cells_left = more;
     }
     sum
 }
@@ -189,28 +220,30 @@ fn emulator_bits(dev: &Device) -> u64
 }
 
 fn cell_bits(dev: &Device) -> u64
-    ensures { result ≡ counted (total (state_widths (cells_of dev.now.circuit.lines))) }
+    ensures { result ≡ counted (total (cells_taken dev.now)) }
 {
-    bits_of_cells(dev.circuit.cells())
+    device_design::rom_words_have_widths(&dev.circuit);
+    bits_of_cells(dev.circuit.cells(), dev.circuit.roms())
 }
 
 fn kept_bits(dev: &Device) -> u64
-    ensures { result ≡ counted (total (persistent_widths (cells_of dev.now.circuit.lines) dev.now.driver.keep)) }
+    ensures { result ≡ counted (total (kept_taken dev.now)) }
 {
-    bits_of_kept(dev.circuit.cells(), dev.driver.keep())
+    device_design::rom_words_have_widths(&dev.circuit);
+    bits_of_kept(dev.circuit.cells(), dev.driver.keep(), dev.circuit.roms())
 }
 
-/// Before a power-cycle: the fields, the cells that are kept, and the noise.
+/// Before a power-cycle: the fields, the cells that are kept but for ROM words, and the noise.
 fn power_bits(dev: &Device) -> u64
-    ensures { result ≡ counted (total (word_widths dev.now.spec.init) + (total (persistent_widths (cells_of dev.now.circuit.lines) dev.now.driver.keep) + total (noise_widths (states_of dev.now.circuit.lines) dev.now.driver.keep))) }
+    ensures { result ≡ counted (total (word_widths dev.now.spec.init) + (total (kept_taken dev.now) + total (noise_widths (states_of dev.now.circuit.lines) dev.now.driver.keep))) }
 {
     let words = kept_bits(dev).saturating_add(bits_of_noise(&dev.circuit, dev.driver.keep()));
     field_bits(dev).saturating_add(words)
 }
 
-/// Between host calls: the fields and all cells.
+/// Between host calls: the fields and all cells but for ROM words.
 fn idle_bits(dev: &Device) -> u64
-    ensures { result ≡ counted (total (word_widths dev.now.spec.init) + total (state_widths (cells_of dev.now.circuit.lines))) }
+    ensures { result ≡ counted (total (word_widths dev.now.spec.init) + total (cells_taken dev.now)) }
 {
     field_bits(dev).saturating_add(cell_bits(dev))
 }
@@ -231,7 +264,7 @@ fn wire_bits(dev: &Device, sc: &Script) -> u64
 
 /// Of the segment of a call: those between host calls, and the arguments.
 fn call_bits(dev: &Device, op: u32) -> u64
-    ensures { result ≡ counted ((total (word_widths dev.now.spec.init) + total (state_widths (cells_of dev.now.circuit.lines))) + total (head_args (slice_get dev.now.spec.ops op))) }
+    ensures { result ≡ counted ((total (word_widths dev.now.spec.init) + total (cells_taken dev.now)) + total (head_args (slice_get dev.now.spec.ops op))) }
 {
     idle_bits(dev).saturating_add(argument_bits(dev, op))
 }
@@ -249,8 +282,8 @@ fn kind_bits(dev: &Device, sc: &Script, kind: Kind) -> u64
     }
 }
 
-/// Of the segment of the cut: the fields, all cells, the emulator's words, and those of the items
-/// behind it.
+/// Of the segment of the cut: the fields, all cells but for ROM words, the emulator's words, and those
+/// of the items behind it.
 fn cut_bits(dev: &Device, sc: &Script) -> u64
     ensures { result ≡ counted (root_bits dev.now sc.now (Some OfCut)) }
 {

@@ -2,7 +2,7 @@
 ghost use Rattle.std.specs.Prelude.{◌≡◌, ◌<◌, [], length, map, slice_get, true, IfOk, OnOk};
 ghost use Rattle.knox_words.specs.Lists.{fit};
 ghost use Rattle.knox_theory.specs.HostSegments.{is_reply};
-ghost use Rattle.knox_circuit.specs.Circuit.{cells_of, state_widths};
+ghost use Rattle.circuit_meaning.specs.Circuit.{cells_of, state_widths};
 ghost use Rattle.knox_lang.specs.Operation.{op_after, op_result};
 ghost use Rattle.driver_machine.specs.Configs.{meant};
 ghost use Rattle.device_design.specs.Meaning.{head_args};
@@ -86,8 +86,8 @@ impl Room {
         )
     }
 
-    /// The root of `rest`, `wait` and `call`: takes fields, device words and words of the widths in
-    /// `arg_widths`, and goes on where `idle` is 1 of the first two.
+    /// The root of `rest`, `wait` and `call`: takes fields, device words but for ROM words, and words
+    /// of the widths in `arg_widths`, and goes on where `idle` is 1 of the first two.
     pub(crate) fn begin_idle<'a>(
         &mut self,
         alloc: Global,
@@ -99,8 +99,10 @@ impl Room {
         ensures run { IfOk result (λ l. Idles dev.now sc.now self.old.arg_widths.items words.now self.new.fields self.new.device.words self.new.args l) }
         ensures made { made_for self.new ≡ made_for self.old }
     {
+        device_design::rom_words_have_widths(&dev.circuit);
         let left = match take_three(
             self.widths.fields.as_slice(),
+            dev.circuit.roms(),
             self.widths.cells.as_slice(),
             self.arg_widths.as_slice(),
             words,

@@ -2,8 +2,8 @@
 ghost use Rattle.std.specs.Prelude.{◌≡◌, ℕ, suc, List, [], true, IfOk, OnOk};
 ghost use Rattle.knox_words.specs.Lists.{fit};
 ghost use Rattle.knox_theory.specs.WireSegments.{same_outs, ticked, is_refined};
-ghost use Rattle.knox_circuit.specs.Circuit.{cells_of, state_widths, input_widths};
-ghost use Rattle.knox_circuit.specs.Power.{spread_words, states_of, noise_widths, state_after_power};
+ghost use Rattle.circuit_meaning.specs.Circuit.{cells_of, state_widths, input_widths};
+ghost use Rattle.circuit_meaning.specs.Power.{spread_words, states_of, noise_widths, state_after_power};
 ghost use Rattle.script_core.specs.declared.parts.Item.{Item};
 ghost use Rattle.script_core.specs.declared.parts.ScriptParts.{ScriptParts};
 ghost use Rattle.script_core.specs.Hints.{refines, wire_items, holds, seen};
@@ -133,7 +133,6 @@ impl Room {
         ensures state { state_in self.new ≡ state_in self.old }
         ensures made { made_for self.new ≡ made_for self.old }
     {
-        knox_circuit::cells_are_single_words(&dev.circuit);
         spread::spread(
             dev.circuit.cells(),
             dev.driver.keep(),
@@ -152,8 +151,8 @@ impl Room {
         )
     }
 
-    /// The root of `wire` and of `boot-host`: takes fields, persistent and noise words, goes on where
-    /// `refine` is 1 of the first two, and cycles the power of the device.
+    /// The root of `wire` and of `boot-host`: takes fields, persistent and noise words but for ROM
+    /// words, goes on where `refine` is 1 of the first two, and cycles the power of the device.
     pub(crate) fn power_up<'a>(
         &mut self,
         alloc: Global,
@@ -165,9 +164,11 @@ impl Room {
         ensures run { IfOk result (λ l. Powers dev.now sc.now words.now self.new.fields self.new.kept self.new.noise.words self.new.device.words l) }
         ensures made { made_for self.new ≡ made_for self.old }
     {
+        device_design::rom_words_have_widths(&dev.circuit);
         knox_circuit::persistent_words_are_spread(&dev.circuit);
         let left = match take_three(
             self.widths.fields.as_slice(),
+            self.widths.persistent_roms.as_slice(),
             self.widths.persistent.as_slice(),
             self.widths.noise.as_slice(),
             words,
@@ -230,8 +231,8 @@ impl Room {
         Ok(Left::On(left))
     }
 
-    /// The root of a cut: takes fields, device words and the emulator's words, and goes on where
-    /// the cut's condition is 1 of them.
+    /// The root of a cut: takes fields, device words but for ROM words, and the emulator's words, and
+    /// goes on where the cut's condition is 1 of them.
     pub(crate) fn enter<'a>(
         &mut self,
         alloc: Global,
@@ -243,8 +244,10 @@ impl Room {
         ensures run { IfOk result (λ l. (p : ScriptParts) (items : List Item) → Leads dev.now (cut_run dev.now p condition.now items) words.now (state_in self.new) (λ st. course_from dev.now p items (here st)) l) }
         ensures made { made_for self.new ≡ made_for self.old }
     {
+        device_design::rom_words_have_widths(&dev.circuit);
         let left = match take_three(
             self.widths.fields.as_slice(),
+            dev.circuit.roms(),
             self.widths.cells.as_slice(),
             self.widths.emu.as_slice(),
             words,
@@ -303,7 +306,6 @@ impl Room {
         ensures state { state_in self.new ≡ state_in self.old }
         ensures made { made_for self.new ≡ made_for self.old }
     {
-        knox_circuit::cells_are_single_words(&dev.circuit);
         spread::persistent(
             dev.circuit.cells(),
             dev.driver.keep(),

@@ -1,12 +1,13 @@
 //! Runs of a segment over words.
-ghost use Rattle.std.specs.Prelude.{◌≡◌, ◌<◌, ℕ, List, length, true, IfOk, if◌then◌else◌};
+ghost use Rattle.std.specs.Prelude.{◌≡◌, ◌<◌, ℕ, List, drop, length, true, IfOk, if◌then◌else◌};
 ghost use Rattle.knox_words.specs.Lists.{fit};
 ghost use Rattle.knox_theory.specs.Course.{run};
-ghost use Rattle.knox_circuit.specs.Circuit.{cells_of, state_widths};
+ghost use Rattle.circuit_meaning.specs.Circuit.{cells_of, state_widths};
 ghost use Rattle.script_core.specs.declared.parts.Item.{Item};
 ghost use Rattle.script_core.specs.declared.parts.Kind.TheVariants.{Call};
 ghost use Rattle.script_core.specs.Hints.{ops_of, wire_items, first_cut};
-ghost use Rattle.script_core.specs.Reached.{course_from, ticks_from, here, wire_run, behind_course, kind_course, Takes, TakesThree, Leads};
+ghost use Rattle.script_core.specs.Reached.{course_from, ticks_from, here, wire_run, behind_course, kind_course, first_known, Takes, TakesPart, TakesThree, Leads};
+ghost use Rattle.device_design.specs.Roms.{known_fit};
 ghost use Rattle.script_core.specs.Rooms.{room_for, made_for, state_in};
 ghost use Rattle.script_core.specs.Runs.{ToEnd, ToFailure, reach, reach_of, end_of, end_said, course_at, segments_of};
 
@@ -74,9 +75,65 @@ pub(crate) fn take_words<'a>(
     Ok(Left::On(left))
 }
 
-/// Takes words of three lists of widths, one after another.
+/// What is known of the word at the first place.
+fn first_known(known: &[Option<Word>]) -> Option<Word>
+    ensures { result ≡ first_known known.now }
+{
+    match known.first() {
+        Some(first) => *first,
+        None => None,
+    }
+}
+
+/// What is known of the words at the others.
+fn other_known(known: &[Option<Word>]) -> &[Option<Word>]
+    ensures { result.now ≡ drop 1 known.now }
+{
+    match known.split_first() {
+        Some((_, more)) => more,
+        None => known,
+    }
+}
+
+/// All words of these widths: each word that is known in its place, and the others taken from the
+/// front of the words.
+pub(crate) fn take_part<'a>(
+    known: &[Option<Word>],
+    widths: &[u8],
+    words: &'a [Word],
+    into: &mut Words,
+) -> Result<Left<'a>, AllocError>
+    requires { known_fit known.now widths.now ≡ true }
+    ensures { IfOk result (λ l. TakesPart known.now widths.now words.now into.new l) }
+{
+    into.clear();
+    let mut known_left = known;
+    let mut wanted = widths;
+    let mut left = words;
+    while let Some((width, others)) = wanted.split_first() {
+        if let Some(word) = first_known(known_left) {
+            into.push(word)?;
+        } else {
+            let Some((word, more)) = left.split_first() else {
+                return Ok(Left::Ended(Progress::Wants(*width)));
+            };
+            if !knox_words::has_width(*word, *width) {
+                return Ok(Left::Ended(Progress::Misfit));
+            }
+            into.push(*word)?;
+            left = more;
+        }
+        known_left = other_known(known_left);
+        wanted = others;
+    }
+    Ok(Left::On(left))
+}
+
+/// Takes words of three lists of widths, one after another, but for the words of the second that
+/// are known.
 pub(crate) fn take_three<'a>(
     first: &[u8],
+    known: &[Option<Word>],
     second: &[u8],
     third: &[u8],
     words: &'a [Word],
@@ -84,13 +141,14 @@ pub(crate) fn take_three<'a>(
     into_second: &mut Words,
     into_third: &mut Words,
 ) -> Result<Left<'a>, AllocError>
-    ensures { IfOk result (λ l. TakesThree first.now second.now third.now words.now into_first.new into_second.new into_third.new l) }
+    requires { known_fit known.now second.now ≡ true }
+    ensures { IfOk result (λ l. TakesThree first.now known.now second.now third.now words.now into_first.new into_second.new into_third.new l) }
 {
     let left = match take_words(first, words, into_first)? {
         Left::Ended(end) => return Ok(Left::Ended(end)),
         Left::On(left) => left,
     };
-    let left = match take_words(second, left, into_second)? {
+    let left = match take_part(known, second, left, into_second)? {
         Left::Ended(end) => return Ok(Left::Ended(end)),
         Left::On(left) => left,
     };

@@ -1,11 +1,13 @@
 //! The widths of the words that the runs of a device's segments take.
 ghost use Rattle.std.specs.Prelude.{◌≡◌, ◌^◌, ◌++◌, [], drop, replicate, IfOk, OnOk, if◌then◌else◌};
-ghost use Rattle.knox_circuit.specs.Circuit.{cells_of, state_widths, input_widths};
-ghost use Rattle.knox_circuit.specs.Power.{first_keep, persistent_widths, states_of, noise_widths};
+ghost use Rattle.circuit_meaning.specs.Circuit.{cells_of, state_widths, input_widths};
+ghost use Rattle.circuit_meaning.specs.Power.{first_keep, persistent_widths, states_of, noise_widths};
 ghost use Rattle.circuit_lines.specs.Nodes.{size};
 ghost use Rattle.knox_lang.specs.WellFormed.{word_widths};
+ghost use Rattle.device_design.specs.Meaning.{persistent_roms};
 ghost use Rattle.script_core.specs.Widths.{port_widths};
 
+use crate::spread::kept_roms;
 use emu_machine::Device;
 use knox_circuit::{Cell, NoiseCells, Port};
 use knox_words::Word;
@@ -13,12 +15,13 @@ use std::alloc::{AllocError, Global};
 
 /// The widths of a device's words: the noise words of the factory and of a power-cycle, the
 /// specification's fields, the persistent cells, all cells, the emulator's fields and the inputs,
-/// each in order.
+/// each in order; and what is known of the words of the persistent cells.
 pub(crate) struct Widths {
     pub(crate) factory_noise: Vec<u8>,
     pub(crate) noise: Vec<u8>,
     pub(crate) fields: Vec<u8>,
     pub(crate) persistent: Vec<u8>,
+    pub(crate) persistent_roms: Vec<Option<Word>>,
     pub(crate) cells: Vec<u8>,
     pub(crate) emu: Vec<u8>,
     pub(crate) inputs: Vec<u8>,
@@ -31,6 +34,7 @@ impl Drop for Widths {
             noise: _noise,
             fields: _fields,
             persistent: _persistent,
+            persistent_roms: _persistent_roms,
             cells: _cells,
             emu: _emu,
             inputs: _inputs,
@@ -166,6 +170,7 @@ impl Widths {
         ensures noise { IfOk result (λ w. w.noise.items ≡ noise_widths (states_of dev.now.circuit.lines) dev.now.driver.keep) }
         ensures fields { IfOk result (λ w. w.fields.items ≡ word_widths dev.now.spec.init) }
         ensures persistent { IfOk result (λ w. w.persistent.items ≡ persistent_widths (cells_of dev.now.circuit.lines) dev.now.driver.keep) }
+        ensures persistent_roms { IfOk result (λ w. w.persistent_roms.items ≡ persistent_roms dev.now.circuit.lines dev.now.driver.keep) }
         ensures cells { IfOk result (λ w. w.cells.items ≡ state_widths (cells_of dev.now.circuit.lines)) }
         ensures emu { IfOk result (λ w. w.emu.items ≡ word_widths dev.now.emulator.init) }
         ensures inputs { IfOk result (λ w. w.inputs.items ≡ input_widths dev.now.circuit.lines) }
@@ -176,6 +181,7 @@ impl Widths {
             noise: of_noise(alloc, dev, dev.driver.keep())?,
             fields: of_words(alloc, dev.spec.parts().init.as_slice())?,
             persistent: of_kept(alloc, cells, dev.driver.keep())?,
+            persistent_roms: kept_roms(alloc, cells, dev.driver.keep(), dev.circuit.roms())?,
             cells: of_cells(alloc, cells)?,
             emu: of_words(alloc, dev.emulator.parts().init.as_slice())?,
             inputs: of_ports(alloc, dev.circuit.inputs())?,

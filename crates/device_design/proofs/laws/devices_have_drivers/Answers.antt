@@ -12,4 +12,4 @@ returns-clause-driver c =
 pub returns-clause-design : goal.returns-clause-design
 returns-clause-design c =
     let dev = c.args.dev.now in
-    has-driver dev.circuit dev.spec dev.driver dev.emulator dev.fits
+    has-driver dev.circuit dev.spec dev.driver dev.emulator c.rom_words_have_widths.ensures.cells dev.fits

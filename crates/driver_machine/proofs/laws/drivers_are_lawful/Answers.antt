@@ -1,3 +1,4 @@
+use Rattle.driver_machine.proofs.Keeping.{keeps-states}
 use Rattle.driver_machine.proofs.Lawfully.{known, is-driver}
 use Rattle.driver_machine.proofs.laws.drivers_are_lawful.Goals as goal
 
@@ -5,4 +6,4 @@ pub returns : goal.returns
 returns c g has =
     let lines = c.args.c.now.lines in
     is-driver lines c.args.d.now
-    (known lines c.args.d.now c.is_well_formed.ensures c.requires (record { shows = c.outputs_have_widths.ensures; ticks = c.circuits_keep_widths.ensures.tick })) g has
+    (known lines c.args.d.now c.is_well_formed.ensures c.requires (keeps-states lines c.outputs_have_widths.ensures c.circuits_keep_widths.ensures.tick c.circuits_keep_rom_words.ensures.tick c.circuits_have_widths.ensures.count)) g has

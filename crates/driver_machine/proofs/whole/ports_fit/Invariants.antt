@@ -1,6 +1,6 @@
 use Rattle.std.proofs.Common.{◌≡◌, ◌==◌, map, length}
 use Rattle.std.specs.Cmp.Lexicographic.{pointwise}
-use Rattle.knox_circuit.specs.declared.circuit.Port.{Port}
+use Rattle.circuit_meaning.specs.declared.port.Port.{Port}
 use Rattle.driver_machine.proofs.whole.ports_fit.Given as goal
 
 abbrev pub invariant-loop-port : goal.invariant-loop-port

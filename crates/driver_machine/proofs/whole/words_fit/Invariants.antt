@@ -1,6 +1,6 @@
 use Rattle.std.proofs.Common.{◌≡◌, map, length}
 use Rattle.knox_words.specs.Lists.{fit}
-use Rattle.knox_circuit.specs.declared.circuit.Port.{Port}
+use Rattle.circuit_meaning.specs.declared.port.Port.{Port}
 use Rattle.driver_machine.proofs.whole.words_fit.Given as goal
 
 abbrev pub invariant-loop-port : goal.invariant-loop-port

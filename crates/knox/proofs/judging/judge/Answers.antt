@@ -1,6 +1,6 @@
 use Rattle.std.proofs.Common.{sym, subst}
 use Rattle.knox.specs.Verdicts.{JudgesTexts, InNoForm}
-use Rattle.knox.proofs.FiveTexts.{five-drop, five-lacking}
+use Rattle.knox.proofs.FiveTexts.{five-drop, five-named}
 use Rattle.knox.proofs.judging.judge.Goals as goal
 
 pub returns-in-Ok-clause-judged : goal.returns-in-Ok-clause-judged
@@ -17,7 +17,7 @@ returns-in-Err-NotYet-clause-unjudged g c =
 
 pub returns-in-Err-Text-clause-unjudged : goal.returns-in-Err-Text-clause-unjudged
 returns-in-Err-Text-clause-unjudged g c =
-    five-lacking _ c.text-c.result.now c.text-s.result.now c.text-d.result.now c.text-e.result.now c.text-h.result.now c.in-Err-Text.letter c.in-Err-Text.why c.requires.within
+    five-named _ c.text-c.result.now c.text-s.result.now c.text-d.result.now c.text-e.result.now c.text-h.result.now c.in-Err-Text.letter c.in-Err-Text.why c.requires.within
     (five-drop _ c.args.first _ _ _ _ _ c.requires.five c.text-c.ensures c.text-s.ensures c.text-d.ensures c.text-e.ensures c.text-h.ensures)
     (rw c.in-Err-Text.field-0-is at c.in-Err-Text.ensures.too_long)
     (rw c.in-Err-Text.field-0-is at c.in-Err-Text.ensures.refused)

@@ -3,6 +3,7 @@ use Rattle.knox_edge.specs.Texts.{Bytes, Reads, bytes_of}
 use Rattle.knox.specs.Runs.{Sunk, Ends}
 use Rattle.knox.proofs.Verified.{Ends-by}
 use Rattle.knox.proofs.Explained.{explained, asks_prefix}
+use Rattle.knox.proofs.FirstFault.{tells_circuit}
 use Rattle.knox.proofs.run.run.Goals as goal
 
 pub returns : goal.returns
@@ -20,5 +21,6 @@ returns g c =
     record {
       ends = ends;
       explained = explained ws c.deliver.result before after out out' err err' ends;
+      circuit = tells_circuit ws c.deliver.result before after out out' err err' ends;
       names = asks_prefix ws c.deliver.result before after out out' err err' ends;
     }

@@ -1,12 +1,12 @@
-use Rattle.knox_circuit.proofs.Sound.{tick-fits}
-use Rattle.knox_circuit.proofs.Renewed.{factory-fits, power-fits}
+use Rattle.std.proofs.Common.{◌≡◌, List, true, subst}
+use Rattle.knox_words.specs.Bits.{Bits}
+use Rattle.knox_words.specs.Lists.{fit}
+use Rattle.circuit_lines.specs.declared.line.Line.{Line}
+use Rattle.circuit_meaning.specs.Circuit.{cells_of, state_after_tick, state_widths, input_widths}
 use Rattle.knox_circuit.proofs.laws.circuits_keep_widths.Goals as goal
 
+-- src/laws.rt:15:1
 pub returns-clause-tick : goal.returns-clause-tick
-returns-clause-tick c state inputs fs fi = tick-fits c.args.c.now.lines c.tables-tables.result.now c.tables-tables.ensures state inputs fs fi
-
-pub returns-clause-factory : goal.returns-clause-factory
-returns-clause-factory c noise fn = factory-fits c.args.c.now.lines c.tables-tables.result.now c.tables-tables.ensures noise fn
-
-pub returns-clause-power : goal.returns-clause-power
-returns-clause-power c keep state noise count fs fn = power-fits c.args.c.now.lines c.tables-tables.result.now c.tables-tables.ensures keep state noise count fs fn
+returns-clause-tick c =
+    subst (λ (ls : List Line). (state inputs : List Bits) → fit (state_widths (cells_of ls)) state ≡ true → fit (input_widths ls) inputs ≡ true → fit (state_widths (cells_of ls)) (state_after_tick ls state inputs) ≡ true)
+    c.ruled.ensures.value c.circuits_keep_widths.ensures.tick

@@ -1,4 +1,4 @@
-use Rattle.std.proofs.Common.{rules, refl, inl}
+use Rattle.std.proofs.Common.{rules, refl}
 use Rattle.knox_verify.specs.Meanings.{CallMissing}
 use Rattle.knox_verify.proofs.Meant.{not-both, driver-read, emulator-read, read-fit, driver-lacks, reads-refuses}
 use Rattle.knox_verify.proofs.meaning.device_of.Goals as goal
@@ -32,5 +32,15 @@ returns-in_err-spec-clause-lacks c g l =
 
 pub returns-in-None-clause-lacks : goal.returns-in-None-clause-lacks
 returns-in-None-clause-lacks c g l =
+    reads-refuses CallMissing _ _ _ g c.one_meaning.ensures.one c.in_ok-driver.ensures.meant
+    (driver-lacks _ _ _ g _ _ c.one_meaning.ensures.one l c.in_ok-circuit.ensures.meant c.in_ok-spec.ensures.meant)
+
+pub returns-in_err-driver-clause-lacks : goal.returns-in_err-driver-clause-lacks
+returns-in_err-driver-clause-lacks c g l =
+    let said = c.in_err-driver.ensures.lacks g (driver-lacks _ _ _ g _ _ c.one_meaning.ensures.one l c.in_ok-circuit.ensures.meant c.in_ok-spec.ensures.meant) in
+    search (rules, said)
+
+pub returns-in_err-emulator-clause-lacks : goal.returns-in_err-emulator-clause-lacks
+returns-in_err-emulator-clause-lacks c g l =
     reads-refuses CallMissing _ _ _ g c.one_meaning.ensures.one c.in_ok-driver.ensures.meant
     (driver-lacks _ _ _ g _ _ c.one_meaning.ensures.one l c.in_ok-circuit.ensures.meant c.in_ok-spec.ensures.meant)

@@ -1,11 +1,16 @@
-use Rattle.std.proofs.Common.{◌≡◌, ◌+◌, ◌≤◌, length}
+use Rattle.std.proofs.Common.{◌≡◌, ◌+◌, ◌≤◌, length, true}
 use Rattle.knox_words.specs.Lists.{total}
-use Rattle.knox_circuit.specs.Power.{persistent_widths}
+use Rattle.circuit_meaning.specs.Circuit.{state_widths}
+use Rattle.circuit_meaning.specs.Power.{persistent_widths}
+use Rattle.device_design.specs.Roms.{unknown, known_fit, kept_roms}
 use Rattle.script_core.specs.Runs.{counted}
 use Rattle.script_core.proofs.bits.bits_of_kept.Given as goal
 
 abbrev pub invariant-loop-cell : goal.invariant-loop-cell
-invariant-loop-cell l = (l.sum ≤ 18446744073709551615) × (counted (l.sum + total (persistent_widths l.left l.kept)) ≡ counted (total (persistent_widths l.cells l.keep)))
+invariant-loop-cell l =
+    (l.sum ≤ 18446744073709551615)
+    × (known_fit l.left (state_widths l.cells_left) ≡ true)
+    × (counted (l.sum + total (unknown (kept_roms l.cells_left l.keep_left l.left) (persistent_widths l.cells_left l.keep_left))) ≡ counted (total (unknown (kept_roms l.cells l.keep l.known) (persistent_widths l.cells l.keep))))
 
 abbrev pub decreases-loop-cell : goal.decreases-loop-cell
-decreases-loop-cell l = length l.left
+decreases-loop-cell l = length l.cells_left

@@ -1,7 +1,7 @@
 use Rattle.std.proofs.Common.{◌≡◌, ◌+◌, ◌≤◌, length}
 use Rattle.knox_words.specs.Lists.{total}
-use Rattle.knox_circuit.specs.Circuit.{state_widths}
-use Rattle.knox_circuit.specs.Power.{noise_widths, states_of}
+use Rattle.circuit_meaning.specs.Circuit.{state_widths}
+use Rattle.circuit_meaning.specs.Power.{noise_widths, states_of}
 use Rattle.script_core.specs.Runs.{counted}
 use Rattle.script_core.proofs.bits.bits_of_noise.Given as goal
 

@@ -1,6 +1,6 @@
 use Rattle.std.proofs.Common.{◌≡◌, ◌∙◌, ap}
 use Rattle.knox_words.specs.Lists.{total}
-use Rattle.knox_circuit.specs.Power.{noise_widths, states_of}
+use Rattle.circuit_meaning.specs.Power.{noise_widths, states_of}
 use Rattle.script_core.specs.Runs.{counted}
 use Rattle.script_core.proofs.Counting.{sum-two}
 use Rattle.script_core.proofs.bits.power_bits.Goals as goal

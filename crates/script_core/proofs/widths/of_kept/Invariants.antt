@@ -1,5 +1,5 @@
 use Rattle.std.proofs.Common.{◌≡◌, ◌++◌, length}
-use Rattle.knox_circuit.specs.Power.{persistent_widths}
+use Rattle.circuit_meaning.specs.Power.{persistent_widths}
 use Rattle.script_core.proofs.widths.of_kept.Given as goal
 
 abbrev pub invariant-loop-cell : goal.invariant-loop-cell

@@ -1,5 +1,5 @@
 use Rattle.std.proofs.Common.{◌≡◌, ◌++◌, length}
-use Rattle.knox_circuit.specs.Circuit.{state_widths}
+use Rattle.circuit_meaning.specs.Circuit.{state_widths}
 use Rattle.script_core.proofs.widths.of_noise_cells.Given as goal
 
 abbrev pub invariant-loop-next : goal.invariant-loop-next

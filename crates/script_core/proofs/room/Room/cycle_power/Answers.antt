@@ -1,7 +1,7 @@
 use Rattle.std.proofs.Common.{◌∙◌, ap, length, List, Bool}
 use Rattle.knox_words.specs.Lists.{fit}
-use Rattle.knox_circuit.specs.Circuit.{cells_of, state_widths}
-use Rattle.knox_circuit.specs.Power.{states_of, noise_widths}
+use Rattle.circuit_meaning.specs.Circuit.{cells_of, state_widths}
+use Rattle.circuit_meaning.specs.Power.{states_of, noise_widths}
 use Rattle.script_core.proofs.Projections.{keep-fits}
 use Rattle.script_core.proofs.room.Room.cycle_power.Goals as goal
 

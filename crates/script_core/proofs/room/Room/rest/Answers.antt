@@ -17,5 +17,5 @@ pub returns-clause-run : goal.returns-clause-run
 returns-clause-run c =
     let room = c.begin_idle.new.self in
     let h = (subst (λ (l : Left). Idles c.args.dev.now c.args.sc.now c.clear.new.self.items c.args.words.now room.fields room.device.words room.args l) c.in-On.is c.in_ok-end.ensures.run) in
-    idle-on c.args.dev.now c.args.sc.now _ _ _ (rest_tail c.args.dev.now c.args.sc.now) c.args.words.now room.fields room.device.words room.args c.in-On.left.now _ (rest-is c.args.dev.now c.args.sc.now) c.clear.ensures.items h.2
+    idle-on c.args.dev.now c.args.sc.now _ _ _ (rest_tail c.args.dev.now c.args.sc.now) c.args.words.now room.fields room.device.words room.args c.in-On.left.now _ (rest-is c.args.dev.now c.args.sc.now) c.clear.ensures.items h.3
     (at-check _ _ _ _ _ c.in-On.left.now c.checked.ensures (c.in_ok-refined.ensures.value ∙ is_refined-are c.args.dev.now c.args.sc.now (state_in room)) c.hint_of_kind.ensures)

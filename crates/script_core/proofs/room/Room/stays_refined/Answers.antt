@@ -1,6 +1,6 @@
 use Rattle.std.proofs.Common.{◌≡◌, ◌∙◌, ap, sym, subst, Bool, IfOk}
-use Rattle.knox_circuit.specs.Circuit.{cells_of}
-use Rattle.knox_circuit.specs.Power.{persistent_words}
+use Rattle.circuit_meaning.specs.Circuit.{cells_of}
+use Rattle.circuit_meaning.specs.Power.{persistent_words}
 use Rattle.script_core.specs.Hints.{refines}
 use Rattle.script_core.specs.Rooms.{state_in}
 use Rattle.script_core.proofs.Projections.{is_refined-are}

@@ -25,4 +25,4 @@ returns-in_ok-tests-in-On c =
     c.in_ok-tests-in-On.ensures
     ∙ (ap (λ (args : Words). tests_met v.circuit.lines v.driver c.args.op args room.device.words) c.as_slice.ensures
     ∙ call-on v c.args.sc.now (c.moves_meet_the_tests.ensures (design_of v.circuit v.spec v.driver v.emulator) c.devices_have_drivers.ensures.design) c.args.op c.arg_widths_into.new.out.items c.args.words.now room.fields room.device.words room.args c.in-On.field-0.now
-    (c.in_ok-arg_widths_into.ensures ∙ ap (λ hs. head_args (slice_get hs c.args.op)) c.ops.ensures) h.2)
+    (c.in_ok-arg_widths_into.ensures ∙ ap (λ hs. head_args (slice_get hs c.args.op)) c.ops.ensures) h.3)

@@ -2,7 +2,7 @@ use Rattle.std.proofs.Common.{◌∙◌, ap, sym, subst}
 use Rattle.knox_words.specs.Lists.{fit}
 use Rattle.knox_theory.specs.Script.{State}
 use Rattle.knox_theory.specs.WireSegments.{ticked, is_refined}
-use Rattle.knox_circuit.specs.Circuit.{cells_of, state_widths}
+use Rattle.circuit_meaning.specs.Circuit.{cells_of, state_widths}
 use Rattle.script_core.specs.declared.run.Left.{Left}
 use Rattle.script_core.specs.Reached.{design, script, Takes}
 use Rattle.script_core.specs.Rooms.{RoomSizes, state_in}

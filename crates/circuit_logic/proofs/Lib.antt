@@ -1,0 +1,8 @@
+pub mod Earlier
+pub mod Placed
+pub mod Held
+pub mod Sorted
+pub mod Small
+pub mod Made
+pub mod Taken
+pub mod Whole

@@ -1,0 +1,11 @@
+pub mod Naming
+pub mod Sizes
+pub mod Narrow
+pub mod Looking
+pub mod Tabled
+pub mod Few
+pub mod Walking
+pub mod Noisy
+pub mod Fitting
+pub mod Kept
+pub mod Places

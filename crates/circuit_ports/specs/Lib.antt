@@ -1,0 +1,4 @@
+pub mod Taken
+pub mod Walk
+pub mod Widths
+pub mod Tables

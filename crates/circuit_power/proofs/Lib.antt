@@ -1,0 +1,10 @@
+pub mod Hanging
+pub mod Standing
+pub mod Growing
+pub mod Ruled
+pub mod Laying
+pub mod Powered
+pub mod Ranked
+pub mod Known
+pub mod Numbered
+pub mod Made

@@ -1,0 +1,9 @@
+pub mod Constant
+pub mod Agreeing
+pub mod Initial
+pub mod Building
+pub mod Ticking
+pub mod Found
+pub mod Walked
+pub mod Gathered
+pub mod Widths

@@ -1,0 +1,11 @@
+pub mod Sorting
+pub mod Operating
+pub mod Valued
+pub mod Paired
+pub mod Celled
+pub mod Ticked
+pub mod Shown
+pub mod Stated
+pub mod Counted
+pub mod Powered
+pub mod Persisting

@@ -1,7 +1,0 @@
-use Rattle.std.proofs.Common.{◌≡◌}
-use Rattle.circuit_lines.specs.Sorts.{earlier}
-use Rattle.knox_circuit.specs.Ports.{outputs_of}
-use Rattle.knox_circuit.proofs.table.outputs.Given as goal
-
-abbrev pub invariant-loop-at : goal.invariant-loop-at
-invariant-loop-at l = l.ports ≡ outputs_of (earlier l.lines l.at)
