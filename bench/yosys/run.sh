@@ -1,0 +1,51 @@
+#!/bin/sh
+# Compares circuits that Yosys writes with their Verilog under Icarus Verilog: bench/yosys/run.sh FOLDER, a
+# folder that is made. Status 0 where all agrees, or where one of the two programs is missing.
+set -e
+here=$(cd "$(dirname "$0")" && pwd)
+ticks=2000
+seed=1
+designs="pin_store fifo accumulator operators"
+
+for tool in yosys iverilog vvp python3; do
+  command -v $tool >/dev/null || { echo "skipped: no $tool"; exit 0; }
+done
+[ -n "$1" ] || { echo "usage: run.sh FOLDER"; exit 2; }
+mkdir -p "$1/designs"
+folder=$(cd "$1" && pwd)
+"$here/build.sh" "$folder"
+simulate=$folder/crates/simulate/out/simulate
+cd "$folder/designs"
+
+# The circuit of a design; a second word is an option of read_verilog.
+circuit_of() {
+  yosys -q -p "read_verilog $2 $here/$1.v; prep -flatten -top $1; memory_nordff; async2sync; dffunmap; write_btor $1.btor2"
+}
+
+for design in $designs; do
+  circuit_of $design
+  python3 "$here/stimuli.py" "$here/$design.v" $ticks $seed .
+  iverilog -g2005 -o $design.vvp ${design}_bench.v "$here/$design.v"
+  vvp -n $design.vvp > $design.icarus
+  "$simulate" run $design.btor2 $design.inputs > $design.knox
+  python3 "$here/compare.py" $design $ticks $design.icarus $design.knox
+done
+
+# The comparison can fail: a circuit whose first `eq` is a `neq` differs.
+sed '0,/ eq /s/ eq / neq /' fifo.btor2 > changed.btor2
+"$simulate" run changed.btor2 fifo.inputs > changed.knox
+if python3 "$here/compare.py" changed $ticks fifo.icarus changed.knox > changed.told; then
+  echo "a changed circuit agrees"
+  exit 1
+fi
+echo "$(head -1 changed.told), as it must"
+
+# An assumption becomes a constraint, which is refused at its line.
+circuit_of assumed -formal
+at=$(grep -n '^[0-9]* constraint ' assumed.btor2 | cut -d: -f1)
+if "$simulate" run assumed.btor2 fifo.inputs > assumed.told 2>&1; then
+  echo "a constraint is accepted"
+  exit 1
+fi
+grep -q "line $at Constraint" assumed.told || { echo "assumed: no 'line $at Constraint' in"; cat assumed.told; exit 1; }
+echo "assumed: line $at Constraint, as it must"
