@@ -26,7 +26,8 @@ pub enum Why {
     Width,
     /// A second `init` of a state, or a value that hangs on what it may not.
     Init,
-    /// A second `next` of a state, or a state that lacks one.
+    /// A second `next` of a state; or, over a whole circuit, a state with an `init` and without a
+    /// `next`, or an `output`, `next` or `bad` line that hangs on a state without a `next`.
     Next,
     /// The array states have more than 65,536 words together.
     TooManyWords,

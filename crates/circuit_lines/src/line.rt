@@ -1,4 +1,7 @@
 //! Lines of BTOR2, as a text has them.
+ghost use Rattle.std.specs.Prelude.{◌≡◌};
+ghost use Rattle.circuit_lines.specs.Sorts.{next_pair, init_pair, output_operand};
+
 use knox_words::{Op1, Op2};
 use sqlite_items::Items;
 
@@ -41,4 +44,36 @@ pub struct Line {
     pub at: u32,
     pub shape: Shape,
     pub symbol: Items<u8>,
+}
+
+impl Shape {
+    /// The state and the value of a `next` line.
+    pub fn next_pair(&self) -> Option<(i64, i64)>
+        ensures { result ≡ next_pair self.now }
+    {
+        match self {
+            Shape::Next(_, state, value) => Some((*state, *value)),
+            _ => None,
+        }
+    }
+
+    /// The state and the value of an `init` line.
+    pub fn init_pair(&self) -> Option<(i64, i64)>
+        ensures { result ≡ init_pair self.now }
+    {
+        match self {
+            Shape::Init(_, state, value) => Some((*state, *value)),
+            _ => None,
+        }
+    }
+
+    /// The operand of an output line.
+    pub fn output_operand(&self) -> Option<i64>
+        ensures { result ≡ output_operand self.now }
+    {
+        match self {
+            Shape::Output(operand) => Some(*operand),
+            _ => None,
+        }
+    }
 }

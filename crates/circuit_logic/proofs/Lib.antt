@@ -1,8 +1,6 @@
-pub mod Earlier
 pub mod Placed
 pub mod Held
 pub mod Sorted
-pub mod Small
 pub mod Made
 pub mod Taken
 pub mod Whole

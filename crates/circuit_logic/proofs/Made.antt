@@ -6,14 +6,13 @@ use Rattle.circuit_lines.specs.Sorts.{earlier, input_sort, sort_named}
 use Rattle.circuit_rules.specs.declared.sort.SortOf.{SortOf}
 use Rattle.circuit_rules.specs.Named.{sort_at}
 use Rattle.circuit_rules.specs.Rules.{AreRuled}
-use Rattle.circuit_rules.proofs.Earlier.{earlier-more, earlier-all}
+use Rattle.circuit_rules.proofs.Earlier.{earlier-more, earlier-all, ruled-earlier}
 use Rattle.circuit_nodes.specs.declared.node.Node.{Node}
 use Rattle.circuit_meaning.specs.declared.port.Cell.{Cell}
 use Rattle.circuit_meaning.specs.Ports.{inputs_of, input_port}
 use Rattle.circuit_meaning.specs.States.{cell_of}
 use Rattle.circuit_places.specs.Resolved.{node_of, nodes_of}
 use Rattle.circuit_logic.specs.Known.{cell_node, node_by}
-use Rattle.circuit_logic.proofs.Earlier.{ruled-earlier}
 use Rattle.circuit_logic.proofs.Sorted.{node-known}
 
 nodes-more : (cells : List Cell) (lines : List Line) (k : ℕ) (l : Line) → slice_get lines k ≡ Some l → nodes_of cells (earlier lines (k + 1)) ≡ nodes_of cells (earlier lines k) ++ node_of cells (earlier lines k) l.number l.shape ∷ []

@@ -1,5 +1,5 @@
 -- The places of earlier lines, among those of all lines.
-use Rattle.std.proofs.Common.{◌≡◌, ℕ, ◌<◌, ◌≤◌, ◌==◌, List, [], ◌∷◌, ◌++◌, Option, Some, None, false, length, drop, reverse, refl, sym, ◌∙◌, ap, subst, arith, lt-ltb, inl, inr, if◌then◌else◌}
+use Rattle.std.proofs.Common.{◌≡◌, ℕ, ◌<◌, ◌≤◌, ◌==◌, List, [], ◌∷◌, ◌++◌, Option, Some, None, false, length, drop, reverse, refl, sym, ◌∙◌, ap, subst, arith, lt-ltb, inl, inr}
 use Rattle.std.proofs.lemmas.Bool.{ne_eqb, le-ltb}
 use Rattle.std.proofs.lemmas.Bool.Decides.{eqb_tells}
 use Rattle.circuit_lines.specs.declared.line.Line.{Line}
@@ -7,9 +7,10 @@ use Rattle.circuit_lines.specs.Sorts.{earlier}
 use Rattle.circuit_rules.specs.Named as among_all
 use Rattle.circuit_rules.specs.Rules.{AreRuled, last_number}
 use Rattle.circuit_rules.proofs.Found.{rising}
+use Rattle.circuit_rules.proofs.Earlier.{cut, length-earlier, ruled-below, last-grows}
+use Rattle.circuit_rules.proofs.Small.{place-inside}
 use Rattle.circuit_places.specs.Resolved.{no_place, place_of}
 use Rattle.circuit_logic.specs.Known.{place_before}
-use Rattle.circuit_logic.proofs.Earlier.{cut, length-earlier, ruled-below, last-grows}
 
 within : (at p : ℕ) → p < at → place_before at (Some p) ≡ p
 within at p h = rw (lt-ltb p at h) refl
@@ -25,19 +26,6 @@ no-place-above (l ∷ before) n r h =
     let other : l.number == n ≡ false = ne_eqb l.number n (λ e. absurd (omega arith)) in
     let above : place_of before n ≡ no_place = no-place-above before n r.1 (omega arith) in
     rw (other, above) refl
-
-place-inside : (before : List Line) (n p : ℕ) → among_all.place_of before n ≡ Some p → p < length before
-place-inside [] n p e = cc
-place-inside (l ∷ before) n p e = elim (eqb_tells l.number n) [
-  | inl q ↦
-      let here : Some (length before) ≡ Some p = sym (ap (λ b. if b then Some (length before) else among_all.place_of before n) q.0) ∙ e in
-      let same : length before ≡ p = cc in
-      omega (arith, same)
-  | inr q ↦
-      let there : among_all.place_of before n ≡ Some p = sym (ap (λ b. if b then Some (length before) else among_all.place_of before n) q.0) ∙ e in
-      let below = place-inside before n p there in
-      omega (arith, below)
-]
 
 wider : (i j : ℕ) (o : Option ℕ) → i ≤ j → ((p : ℕ) → o ≡ Some p → p < i) → place_before i o ≡ place_before j o
 wider i j None le h = refl

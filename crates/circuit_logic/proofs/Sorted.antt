@@ -12,13 +12,12 @@ use Rattle.circuit_rules.specs.Literals.{literal_by}
 use Rattle.circuit_rules.specs.Named.{sort_of, sort_at, node_sort}
 use Rattle.circuit_rules.specs.Rules.{AreRuled, last_number}
 use Rattle.circuit_rules.proofs.Found.{rising}
-use Rattle.circuit_rules.proofs.Earlier.{earlier-more}
+use Rattle.circuit_rules.proofs.Earlier.{earlier-more, cut, last-grows}
 use Rattle.circuit_rules.proofs.Shaped.{word-widths, array-widths, no-widths}
 use Rattle.circuit_meaning.specs.declared.port.Cell.{Cell}
 use Rattle.circuit_meaning.specs.States.{cell_of}
 use Rattle.circuit_places.specs.Resolved.{state_node, choice_node, operator_node, node_or, node_of}
 use Rattle.circuit_logic.specs.Known.{known_width, known_index, cell_node, held_or_zero, operator_by, node_by}
-use Rattle.circuit_logic.proofs.Earlier.{cut, last-grows}
 
 sorted-in : (more before : List Line) (l : Line) → AreRuled (more ++ l ∷ before) → node_sort (more ++ l ∷ before) l.number ≡ sort_at before (sort_named l.shape)
 sorted-in [] before l r = rw (eq-eqb l.number l.number refl) refl

@@ -1,5 +1,5 @@
 -- What is evaluated of lines gives their outputs and their ticks.
-use Rattle.std.proofs.Common.{ℕ, refl, ◌<◌, ◌^◌, ◌+◌, [], ◌∷◌, Option, Some, None, ℤ, length-append, arith, ◌≡◌, ◌≤◌, List, length, map, reverse, ◌∙◌, ap}
+use Rattle.std.proofs.Common.{ℕ, refl, ◌<◌, ◌^◌, ◌+◌, [], ◌∷◌, Option, Some, None, ℤ, length-append, arith, ◌≡◌, ◌≤◌, List, length, map, reverse, slice_get, sym, ◌∙◌, ap}
 use Rattle.std.proofs.lemmas.List.{length-reverse, length-map}
 use Rattle.std.proofs.lemmas.List.Sums.{sum_by-append}
 use Rattle.knox_words.specs.Bits.{Bits}
@@ -7,6 +7,8 @@ use Rattle.circuit_lines.specs.declared.line.Line.{Line}
 use Rattle.circuit_lines.specs.Nodes.{size, next_of}
 use Rattle.circuit_lines.specs.Sorts.{earlier, sort_index, output_operand}
 use Rattle.circuit_rules.specs.Rules.{AreRuled}
+use Rattle.circuit_rules.proofs.Earlier.{ruled-earlier}
+use Rattle.circuit_rules.proofs.Small.{few-lines, small-size, small-sort}
 use Rattle.circuit_nodes.specs.declared.node.Arg.{Arg}
 use Rattle.circuit_nodes.specs.declared.node.Node.{Node}
 use Rattle.circuit_nodes.specs.declared.node.Next.{Next}
@@ -17,14 +19,13 @@ use Rattle.circuit_meaning.specs.declared.port.Cell.{Cell}
 use Rattle.circuit_meaning.specs.Ports.{one_or_none, output_operands, output_port, outputs_of}
 use Rattle.circuit_meaning.specs.States.{words_in}
 use Rattle.circuit_meaning.specs.Circuit.{cells_of, output_words, state_after_tick}
+use Rattle.circuit_meaning.proofs.Cells.{small-cell}
 use Rattle.circuit_nodes.proofs.Ticking.{words_in-next}
 use Rattle.circuit_places.specs.Resolved.{resolved, arg_of, next_or_zero, nexts_of}
 use Rattle.circuit_places.proofs.Bridge.{length-nodes_of, outputs-meet, ticks-meet}
 use Rattle.circuit_logic.specs.declared.logic.Logic.{Logic}
 use Rattle.circuit_logic.specs.Evaluated.{outputs_by, state_by}
 use Rattle.circuit_logic.specs.Sizes.{AreSmall, logic_of}
-use Rattle.circuit_logic.proofs.Earlier.{few-lines, ruled-earlier}
-use Rattle.circuit_logic.proofs.Small.{small-sort, small-cells}
 
 pub long : (lines : List Line) → length (resolved lines).nodes ≡ length lines
 long lines = length-nodes_of (cells_of lines) (reverse lines) ∙ length-reverse lines
@@ -46,6 +47,10 @@ pub ticks-are : (lines : List Line) (logic : Logic) (ins state new : List Bits) 
 ticks-are lines logic ins state new e is few =
     e ∙ (ap (λ (l : Logic). state_by l state ins) is
     ∙ (ap (λ k. ticked (value_at (given ins state) (resolved lines).nodes k) (resolved lines).nexts) (long lines) ∙ ticks-meet lines ins state few))
+
+-- the cells of ruled lines have few words
+pub small-cells : (lines : List Line) (cells : List Cell) → AreRuled (reverse lines) → cells ≡ cells_of lines → AreSmall cells
+small-cells lines cells r e k c is = small-size c.index (small-cell lines k c r (ap (λ (z : List Cell). slice_get z k) (sym e) ∙ is))
 
 pub ruleset whole_steps = (small-cells)
 

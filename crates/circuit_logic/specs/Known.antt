@@ -1,6 +1,6 @@
 -- What is known of a line beside its shape when its node is made: places among all lines, the sort
 -- of its node, the node of its state. No public clause cites it.
-use Rattle.std.specs.Prelude.{ℕ, ◌^◌, ◌==◌, nat_lt, ℤ, pos, negsuc, List, Option, Some, None, length, unwrap_or, false, if◌then◌else◌}
+use Rattle.std.specs.Prelude.{ℕ, ◌^◌, nat_lt, List, Option, Some, None, length, unwrap_or, false, if◌then◌else◌}
 use Rattle.knox_words.specs.Bits.{word_or}
 use Rattle.circuit_lines.specs.declared.line.Line.{Line}
 use Rattle.circuit_lines.specs.declared.line.Shape.{Shape}
@@ -59,17 +59,6 @@ operator_by sort held before _ = node.Const zero_word
 
 abbrev pub node_by : Option SortOf → Option Node → List Line → Shape → Node
 node_by sort held before s = node_or (literal_by (known_width sort) s) (operator_by sort held before s)
-
--- the number of a state and the operand of its `next`, by a line's pair
-abbrev pub entry : List Line → Option (ℤ × ℤ) → Option (ℕ × Arg)
-entry all None = None
-entry all (Some (pos n, v)) = Some (n, arg_of all v)
-entry all (Some (negsuc n, v)) = None
-
--- the operand of a state's `next`, with one more entry
-abbrev pub entered : Option (ℕ × Arg) → ℕ → Option Arg → Option Arg
-entered None n others = others
-entered (Some (m, a)) n others = if m == n then Some a else others
 
 -- an operand that no line has
 abbrev pub no_arg : Arg

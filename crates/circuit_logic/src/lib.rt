@@ -10,11 +10,10 @@ mod next;
 mod node;
 mod place;
 mod size;
-#[cfg(test)]
-mod tests;
 
 pub use laws::{lines_are_small, logic_has_sizes};
 pub use logic::{Logic, Scratch};
 pub use next::{nexts, output_args};
 pub use node::nodes;
+pub use place::arg_of;
 pub use size::are_small;

@@ -216,7 +216,7 @@ pub fn nodes(alloc: Global, lines: &Lines, cells: &[Cell]) -> Result<Items<Node>
     let mut nodes = Items::new(alloc);
     let mut inputs = 0u32;
     for at in 0..lines.len() {
-        let line = place::line_at(lines, at);
+        let line = lines.line_at(at);
         let sort = line_sort(lines, at, line);
         let state = held_at(&held, line.number);
         nodes.push(node_of(lines, at, &line.shape, sort, state, inputs))?;

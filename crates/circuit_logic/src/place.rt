@@ -1,34 +1,18 @@
 //! Operands by the places of their lines.
-ghost use Rattle.std.specs.Prelude.{◌≡◌, ◌≤◌, ◌<◌, length, reverse, slice_get, Some};
+ghost use Rattle.std.specs.Prelude.{◌≡◌, ◌≤◌, length, reverse};
 ghost use Rattle.circuit_lines.specs.Sorts.{earlier};
 ghost use Rattle.circuit_rules.specs.Rules.{AreRuled};
 ghost use Rattle.circuit_places.specs.Resolved.{array_place, arg_of};
 ghost use Rattle.circuit_logic.specs.Known.{place_before};
 
-use circuit_lines::Line;
 use circuit_nodes::Arg;
 use circuit_rules::Lines;
 
 /// A place that no line has.
 pub const NO_PLACE: u32 = u32::MAX;
 
-fn item_at(lines: &[Line], at: usize) -> &Line
-    requires { at < length lines.now }
-    ensures { slice_get lines.now at ≡ Some result.now }
-{
-    &lines[at]
-}
-
-/// The line at a place.
-pub fn line_at(lines: &Lines, at: usize) -> &Line
-    requires { at < length lines.now }
-    ensures { slice_get lines.now at ≡ Some result.now }
-{
-    item_at(lines.as_slice(), at)
-}
-
 /// What holds of lines: each breaks no rule after those before it, and they are at most 1,000,000.
-#[tactic(auto, using(crate::proofs::Earlier::few_steps))]
+#[tactic(auto, using(circuit_rules::proofs::Small::few_steps))]
 pub fn are_ruled(lines: &Lines)
     ensures ruled { AreRuled (reverse lines.now) }
     ensures few { length lines.now ≤ 1000000 }

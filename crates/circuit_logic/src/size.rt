@@ -17,7 +17,7 @@ pub fn cell_at(cells: &[Cell], at: usize) -> &Cell
 }
 
 /// Whether a cell with indices of a width, or without, has fewer than 2 ^ 32 words.
-#[tactic(auto, using(crate::proofs::Small::small_steps))]
+#[tactic(auto, using(circuit_rules::proofs::Small::power_steps))]
 fn is_small(index: Option<u8>) -> bool
     ensures { IsTrue result ↔ cells.size index < 2 ^ 32 }
 {
@@ -40,7 +40,7 @@ pub fn are_small(cells: &[Cell]) -> bool
 }
 
 /// How many words an array with indices of a width has.
-#[tactic(auto, using(crate::proofs::Small::small_steps))]
+#[tactic(auto, using(circuit_rules::proofs::Small::power_steps))]
 pub fn words_of(index: u8) -> u32
     requires { 2 ^ index < 2 ^ 32 }
     ensures { result ≡ 2 ^ index }

@@ -1,7 +1,7 @@
 -- States that are built in the order of their numbers over nodes in the order of their ranks are settled.
-use Rattle.std.proofs.Common.{◌≡◌, ℕ, zero, suc, ◌+◌, ◌-◌, ◌<◌, ◌≤◌, ◌⊎◌, List, [], ◌∷◌, ◌++◌, Some, take, drop, replicate, length, slice_get, slice_index_or, get_or, refl, sym, ◌∙◌, ap, subst, arith, add-one, inl, inr}
+use Rattle.std.proofs.Common.{◌≡◌, ℕ, suc, ◌+◌, ◌-◌, ◌<◌, ◌≤◌, ◌⊎◌, List, [], ◌∷◌, ◌++◌, Some, take, drop, length, slice_get, slice_index_or, get_or, refl, sym, ◌∙◌, ap, subst, arith, inl, inr}
 use Rattle.std.proofs.lemmas.Bool.{cases_lt}
-use Rattle.std.proofs.lemmas.List.{length-append, length-drop, length-take-le, length-replicate, get_or-take, get_or-drop, get_or_append_left, get_or-append_right, get_or-append-add, get_or-replicate, length-map}
+use Rattle.std.proofs.lemmas.List.{length-append, length-drop, length-take-le, get_or-take, get_or-drop, get_or_append_left, get_or-append_right, length-map}
 use Rattle.std.proofs.lemmas.Option.{slice_get-get_or, slice_get_within, get_or_from_slice_get}
 use Rattle.knox_words.specs.Bits.{Bits, bits, word_at}
 use Rattle.circuit_nodes.specs.declared.node.Node.{Node}
@@ -10,10 +10,10 @@ use Rattle.circuit_nodes.specs.declared.power.Start.{Start}
 use Rattle.circuit_nodes.specs.Values.{zero_word}
 use Rattle.circuit_nodes.specs.Starts.{values, fresh_words, noise_taken, placed, with_start, AreWithin, AreSettled}
 use Rattle.circuit_nodes.specs.Orders.{moved, moved_at, node_or, new_place, reordered, rank_level, rank_at, IsRanked, IsByRank}
-use Rattle.circuit_nodes.specs.Settled.{AreNumbered, HaveOneNumber, ArraysAreStates, AreBelow, AreRanked, AreApart, IsPrefix, numbered}
+use Rattle.circuit_nodes.specs.Settled.{AreNumbered, HaveOneNumber, AreBelow, AreRanked, IsPrefix}
 use Rattle.circuit_nodes.proofs.Building.{length-words_by}
 use Rattle.circuit_nodes.proofs.Ranking.{rank_at-at}
-use Rattle.circuit_nodes.proofs.Lists.{standing, slice_get-mapped, slice_get-take, length-take-most, length-take-whole}
+use Rattle.circuit_nodes.proofs.Lists.{slice_get-mapped, slice_get-take, length-take-most, length-take-whole}
 use Rattle.circuit_nodes.proofs.Reading.{Reads, AllRead, AgreeAt, keeps}
 
 -- a place outside a state's words
@@ -144,66 +144,3 @@ prefix-whole ranks order number n e below = record {
 }
 
 pub ruleset prefix_steps = (below-more, prefix-here, prefix-whole)
-
--- numbers
-
-numbered-at : (numbers : List ℕ) (first words number j : ℕ) → first + words ≤ length numbers → j < words → slice_index_or (numbered numbers first words number) (first + j) 0 ≡ number
-numbered-at numbers first words number j within lt =
-    let front : length (take first numbers) ≡ first = length-take-le first numbers (omega arith) in
-    let some : j < length (replicate words number) = omega (arith, lt, length-replicate words number) in
-    ap (λ (n : ℕ). slice_index_or (numbered numbers first words number) (n + j) 0) (sym front)
-    ∙ (get_or-append-add (take first numbers) (replicate words number ++ drop (first + words) numbers) j 0
-    ∙ (get_or_append_left (replicate words number) (drop (first + words) numbers) 0 j some
-    ∙ get_or-replicate words j number 0 lt))
-
-numbered-before : (numbers : List ℕ) (first words number p : ℕ) → first + words ≤ length numbers → p < first → slice_index_or (numbered numbers first words number) p 0 ≡ slice_index_or numbers p 0
-numbered-before numbers first words number p within lt =
-    let front : length (take first numbers) ≡ first = length-take-le first numbers (omega arith) in
-    get_or_append_left (take first numbers) (replicate words number ++ drop (first + words) numbers) 0 p (omega (arith, front, lt))
-    ∙ get_or-take first numbers p 0 lt
-
--- the first states are numbered
-abbrev pub FirstNumbered : List ℕ → List Start → ℕ → Type 0
-FirstNumbered numbers starts n = (i j : ℕ) (s : Start) → i < n → slice_get starts i ≡ Some s → j < s.words → slice_index_or numbers (s.first + j) 0 ≡ i + 1
-
-pub first_numbered-more : (numbers : List ℕ) (starts : List Start) (n number : ℕ) (s : Start) → AreApart starts → slice_get starts n ≡ Some s → s.first + s.words ≤ length numbers → number ≡ n + 1 → FirstNumbered numbers starts n → FirstNumbered (numbered numbers s.first s.words number) starts (n + 1)
-first_numbered-more numbers starts n number s apart is within e so_far i j t lt at few = elim (cases_lt i n) [
-  | inl before ↦
-      let stands : t.first + j < s.first = omega (arith, apart i n t s before at is, few) in
-      numbered-before numbers s.first s.words number (t.first + j) within stands ∙ so_far i j t before at few
-  | inr here ↦
-      let same : i ≡ n = omega arith in
-      let both : Some t ≡ Some s = sym at ∙ (ap (slice_get starts) same ∙ is) in
-      let own : t ≡ s = cc in
-      let less : j < s.words = subst (λ (u : Start). j < u.words) own few in
-      ap (λ (u : Start). slice_index_or (numbered numbers s.first s.words number) (u.first + j) 0) own
-      ∙ (numbered-at numbers s.first s.words number j within less ∙ (e ∙ ap (λ (m : ℕ). m + 1) (sym same)))
-]
-
-pub ruleset number_steps = (first_numbered-more)
-
--- arrays that are states
-
-pub one-number : (numbers : List ℕ) (starts : List Start) (ns : List Node) → AreNumbered numbers starts → ArraysAreStates starts ns → HaveOneNumber numbers ns
-one-number numbers starts ns numbered states k p n j is lt =
-    let found = states k p n is in
-    let s = found.1 in
-    let all : (l : ℕ) → l < n → slice_index_or numbers (p + l) 0 ≡ found.0 + 1 =
-    (λ l few. ap (λ (q : ℕ). slice_index_or numbers (q + l) 0) (sym found.3) ∙ numbered found.0 l s found.2 (omega (arith, few, found.4))) in
-    let none : p + 0 ≡ p = omega arith in
-    all j lt ∙ sym (ap (λ (q : ℕ). slice_index_or numbers q 0) (sym none) ∙ all 0 (omega (arith, lt)))
-
--- states stand apart where each stands behind the one before it
-
-pub apart-next : (starts : List Start) → ((i : ℕ) (s t : Start) → slice_get starts i ≡ Some s → slice_get starts (i + 1) ≡ Some t → s.first + s.words ≤ t.first) → AreApart starts
-apart-next starts next i zero s t lt is_s is_t = absurd (omega arith)
-apart-next starts next i (suc j) s t lt is_s is_t =
-    let after : slice_get starts (j + 1) ≡ Some t = rw add-one is_t in
-    elim (cases_lt i j) [
-      | inl before ↦
-          let found = standing starts j (omega (arith, slice_get_within starts (suc j) t is_t)) in
-          omega (arith, apart-next starts next i j s found.0 before is_s found.1, next j found.0 t found.1 after)
-      | inr here ↦
-          let e : i ≡ j = omega arith in
-          next j s t (ap (slice_get starts) (sym e) ∙ is_s) after
-    ]

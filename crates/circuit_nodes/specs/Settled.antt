@@ -1,19 +1,10 @@
 -- Nodes in the order of their ranks settle states that are built in the order of their numbers. A
 -- state's number is its place among those that are built, from 1 on.
 -- The project's own.
-use Rattle.std.specs.Prelude.{◌≡◌, ℕ, ◌+◌, ◌<◌, ◌≤◌, List, ◌++◌, length, take, drop, replicate, slice_get, slice_index_or, Some}
+use Rattle.std.specs.Prelude.{◌≡◌, ℕ, ◌+◌, ◌<◌, ◌≤◌, List, length, slice_get, slice_index_or, Some}
 use Rattle.circuit_nodes.specs.declared.node.Node.{Node}
 use Rattle.circuit_nodes.specs.declared.node.Node.TheVariants as node
 use Rattle.circuit_nodes.specs.declared.power.Start.{Start}
-
--- each state's words stand behind those of the states before it
-abbrev pub AreApart : List Start → Type 0
-AreApart starts =
-    (i j : ℕ) (s t : Start) → i < j → slice_get starts i ≡ Some s → slice_get starts j ≡ Some t → s.first + s.words ≤ t.first
-
--- numbers with one number at so many places from one on
-abbrev pub numbered : List ℕ → ℕ → ℕ → ℕ → List ℕ
-numbered numbers first words number = take first numbers ++ (replicate words number ++ drop (first + words) numbers)
 
 -- `numbers` has the number of each state at each of its places
 abbrev pub AreNumbered : List ℕ → List Start → Type 0
@@ -24,11 +15,6 @@ AreNumbered numbers starts =
 abbrev pub HaveOneNumber : List ℕ → List Node → Type 0
 HaveOneNumber numbers ns =
     (k p n j : ℕ) → slice_get ns k ≡ Some (node.Array p n) → j < n → slice_index_or numbers (p + j) 0 ≡ slice_index_or numbers p 0
-
--- each array node is the whole of a state
-abbrev pub ArraysAreStates : List Start → List Node → Type 0
-ArraysAreStates starts ns =
-    (k p n : ℕ) → slice_get ns k ≡ Some (node.Array p n) → (i : ℕ) × (s : Start) × (slice_get starts i ≡ Some s) × (s.first ≡ p) × (s.words ≡ n)
 
 -- the first n nodes of an order have ranks below a number
 abbrev pub AreBelow : List ℕ → List ℕ → ℕ → ℕ → Type 0

@@ -17,10 +17,7 @@ mod tick;
 pub use eval::{arg_words, fill};
 pub use node::{Arg, Next, Node};
 pub use order::{reordered, reordered_nodes_keep_values};
-pub use power::{Fresh, Start, are_within, build_states};
+pub use power::{Fresh, Start, build_states};
 pub use rank::{fill_places, fill_ranks, rank_order, rank_order_is_in_order};
-pub use settle::{fill_numbers, rank_prefix, ranked_starts_are_settled};
+pub use settle::{rank_prefix, ranked_starts_are_settled};
 pub use tick::{advance, has_words};
-
-#[cfg(test)]
-mod tests;

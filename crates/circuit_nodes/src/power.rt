@@ -1,5 +1,5 @@
 //! States that are built one after another, each over those before it.
-ghost use Rattle.std.specs.Prelude.{◌≡◌, ◌↔◌, IsTrue, ◌≤◌, ◌<◌, ◌+◌, ℕ, length, slice_get, drop, Some, []};
+ghost use Rattle.std.specs.Prelude.{◌≡◌, ◌≤◌, ◌<◌, ◌+◌, ℕ, length, slice_get, drop, Some, []};
 ghost use Rattle.circuit_nodes.specs.Values.{given, IsFilled};
 ghost use Rattle.circuit_nodes.specs.Starts.{built, fresh_words, noise_taken, placed, AreWithin, AreSettled};
 
@@ -28,24 +28,11 @@ pub struct Start {
     pub fresh: Fresh,
 }
 
-pub(crate) fn start_at(starts: &[Start], at: usize) -> Start
+fn start_at(starts: &[Start], at: usize) -> Start
     requires { at < length starts.now }
     ensures { slice_get starts.now at ≡ Some result }
 {
     starts[at]
-}
-
-/// Whether the words of every state stand among so many.
-pub fn are_within(starts: &[Start], words: usize) -> bool
-    ensures { IsTrue result ↔ AreWithin starts.now words }
-{
-    for k in 0..starts.len() {
-        let start = start_at(starts, k);
-        if start.first as usize + start.words as usize > words {
-            return false;
-        }
-    }
-    true
 }
 
 /// How many noise words a state takes.

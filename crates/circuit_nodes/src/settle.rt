@@ -1,36 +1,13 @@
-//! The numbers of states that are built, and how many nodes have ranks below a number.
-ghost use Rattle.std.specs.Prelude.{◌≡◌, ◌≤◌, ◌+◌, List, length};
+//! States that are settled, and how many nodes have ranks below a number.
+ghost use Rattle.std.specs.Prelude.{◌≡◌, ◌≤◌, List, length};
 ghost use Rattle.knox_words.specs.Bits.{Bits};
 ghost use Rattle.circuit_nodes.specs.Orders.{reordered, no_place, IsRanked, IsByRank};
 ghost use Rattle.circuit_nodes.specs.Starts.{AreWithin, AreSettled};
-ghost use Rattle.circuit_nodes.specs.Settled.{numbered, AreApart, AreNumbered, HaveOneNumber, AreBelow, AreRanked, IsPrefix};
+ghost use Rattle.circuit_nodes.specs.Settled.{AreNumbered, HaveOneNumber, AreBelow, AreRanked, IsPrefix};
 
 use crate::node::Node;
-use crate::power::{Start, start_at};
+use crate::power::Start;
 use crate::rank::number_or_zero;
-
-/// Puts a number at each place of a state.
-fn put_number(numbers: &mut [u32], start: Start, number: u32)
-    requires { start.first + start.words ≤ length numbers.old }
-    ensures { numbers.new ≡ numbered numbers.old start.first start.words number }
-{
-    let first = start.first as usize;
-    numbers[first..first + start.words as usize].fill(number);
-}
-
-/// Fills the number of each state in at its places: its place among the states, from 1 on. What
-/// `numbers` has at a place of none stays.
-#[tactic(auto, using(crate::proofs::Settling::number_steps))]
-pub fn fill_numbers(starts: &[Start], numbers: &mut [u32])
-    requires few { length starts.now ≤ no_place }
-    requires within { AreWithin starts.now (length numbers.old) }
-    requires apart { AreApart starts.now }
-    ensures { AreNumbered numbers.new starts.now }
-{
-    for k in 0..starts.len() {
-        put_number(numbers, start_at(starts, k), k as u32 + 1);
-    }
-}
 
 /// States that are built in the order of their numbers are settled over nodes in the order of their
 /// ranks, where each hangs on nodes with ranks below its number.

@@ -1,7 +1,5 @@
 -- The words of all states of ruled lines are few.
-use Rattle.std.proofs.Common.{◌≡◌, ℕ, ◌+◌, ◌<◌, ◌≤◌, nat_le, nat_lt, List, [], ◌∷◌, ◌++◌, Option, Some, None, false, is_none, length, refl, arith, inl, inr}
-use Rattle.std.proofs.lemmas.Bool.{or_parts, cases_lt}
-use borrow.Author.Tests.{leb-false}
+use Rattle.std.proofs.Common.{◌≡◌, ℕ, ◌+◌, ◌≤◌, List, [], ◌∷◌, ◌++◌, Option, Some, None, false, is_none, length, refl, arith}
 use Rattle.circuit_lines.specs.declared.line.Shape.{Shape}
 use Rattle.circuit_lines.specs.declared.line.Shape.TheVariants as shape
 use Rattle.circuit_lines.specs.declared.line.Line.{Line}
@@ -12,7 +10,7 @@ use Rattle.circuit_rules.specs.declared.sort.SortOf.TheVariants.{Words, Arrays}
 use Rattle.circuit_rules.specs.Named.{sort_of}
 use Rattle.circuit_rules.specs.Rules.{AreRuled, breaks_sort, array_size, state_words, array_words}
 use Rattle.circuit_rules.proofs.Obeyed.{obeys}
-use Rattle.circuit_rules.proofs.Adding.{words-fit}
+use Rattle.circuit_rules.proofs.Small.{few-ruled, arrays-few}
 use Rattle.circuit_rules.proofs.Shaped.{word-widths, array-widths}
 use Rattle.circuit_ports.specs.declared.state.State.{State}
 use Rattle.circuit_ports.specs.Walk.{words_of}
@@ -40,24 +38,9 @@ all-few all (l ∷ before) r =
     let sum = words-append (states_among all before) (state_among all before l (state_sort l.shape)) in
     omega (arith, rest, one, sum)
 
-arrays-few : (past : List Line) → AreRuled past → array_words past ≤ 65536
-arrays-few [] r = omega arith
-arrays-few (l ∷ before) r =
-    let rest = arrays-few before r.1 in
-    elim (cases_lt 65536 (array_words before + state_words before l.shape)) [
-      | inl over ↦ absurd (words-fit before l (state_words before l.shape) r.0 rest refl over)
-      | inr fits ↦ fits
-    ]
-
-lines-few : (past : List Line) → AreRuled past → length past ≤ 1000000
-lines-few [] r = omega arith
-lines-few (l ∷ before) r =
-    let below : length before < 1000000 = leb-false 1000000 (length before) (or_parts (nat_lt 1000000 l.at) (nat_le 1000000 (length before)) (obeys before l r.0).near).1 in
-    omega (arith, below)
-
 pub states-few : (all past : List Line) → AreRuled past → words_of (states_among all past) ≤ 1065536
 states-few all past r =
     let words = all-few all past r in
     let arrays = arrays-few past r in
-    let lines = lines-few past r in
+    let lines = few-ruled past r in
     omega (arith, words, arrays, lines)

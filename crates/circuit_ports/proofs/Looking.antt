@@ -1,6 +1,6 @@
 -- What is looked up among all lines is what a line sees among those before it.
 use Rattle.std.proofs.Common.{◌≡◌, ℕ, zero, suc, ◌+◌, ◌<◌, ◌≤◌, ◌==◌, ℤ, List, ◌∷◌, Option, Some, None, false, is_none, not, length, reverse, slice_get, refl, sym, ◌∙◌, ap, subst, arith, eq-eqb, inl, inr}
-use Rattle.std.proofs.lemmas.Bool.{or_parts, ne_eqb, cases_lt}
+use Rattle.std.proofs.lemmas.Bool.{or_parts, cases_lt}
 use Rattle.std.proofs.lemmas.Option.{slice_get_within}
 use Rattle.circuit_lines.specs.declared.line.Shape.{Shape}
 use Rattle.circuit_lines.specs.declared.line.Shape.TheVariants as shape
@@ -11,31 +11,21 @@ use Rattle.circuit_rules.specs.declared.sort.SortOf.{SortOf}
 use Rattle.circuit_rules.specs.declared.sort.SortOf.TheVariants.{Words, Arrays}
 use Rattle.circuit_rules.specs.Named.{sort_of, sort_at, node_sort, operand_sort, is_words}
 use Rattle.circuit_rules.specs.Rules.{AreRuled, breaks_sort, breaks_operand}
-use Rattle.circuit_rules.specs.Entries.{entry_node}
 use Rattle.circuit_rules.proofs.Obeyed.{obeys}
-use Rattle.circuit_rules.proofs.Found.{none-above, rising, node-found}
-use Rattle.circuit_rules.proofs.Earlier.{earlier-next, earlier-more, earlier-all, slice_get-some}
-use Rattle.circuit_rules.proofs.Feeding.{ruled-down}
+use Rattle.circuit_rules.proofs.Found.{node-apart}
+use Rattle.circuit_rules.proofs.Earlier.{earlier-next, earlier-more, earlier-all, slice_get-some, ruled-earlier}
 use Rattle.circuit_rules.proofs.Shaped.{word-widths, array-widths, node-width}
 use Rattle.circuit_ports.specs.Widths.{word_width, index_width}
-
-pub ruled-earlier : (lines : List Line) (i : ℕ) → i ≤ length lines → AreRuled (reverse lines) → AreRuled (earlier lines i)
-ruled-earlier lines i le r = ruled-down lines i (length lines) le (omega arith) (subst AreRuled (sym (earlier-all lines)) r)
 
 -- a line with those before it
 pub ruled-here : (lines : List Line) (k : ℕ) (l : Line) → slice_get lines k ≡ Some l → AreRuled (reverse lines) → AreRuled (l ∷ earlier lines k)
 ruled-here lines k l is r =
-    let within : k < length lines = slice_get_within lines k l is in
-    subst AreRuled (earlier-more lines k l is) (ruled-earlier lines (k + 1) (omega arith) r)
+    subst AreRuled (earlier-more lines k l is) (ruled-earlier lines (k + 1) r)
 
 -- a node that is found is still found after one more line
 node-keeps : (before : List Line) (l : Line) (n : ℕ) (t : SortOf) → AreRuled (l ∷ before) → node_sort before n ≡ Some t → node_sort (l ∷ before) n ≡ Some t
 node-keeps before l n t r e =
-    let other : l.number == n ≡ false = ne_eqb l.number n (λ q.
-    let rise = rising before l r.0 in
-    let none : node_sort before n ≡ None = node-found before n ∙ ap entry_node (none-above before n r.1 (omega arith)) in
-    let bad : None ≡ Some t = sym none ∙ e in
-    cc) in
+    let other : l.number == n ≡ false = node-apart before l n r (ap is_none e) in
     rw other e
 
 node-later : (lines : List Line) (i j n : ℕ) (t : SortOf) → i ≤ j → j ≤ length lines → AreRuled (earlier lines j) → node_sort (earlier lines i) n ≡ Some t → node_sort (earlier lines j) n ≡ Some t

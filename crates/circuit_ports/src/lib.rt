@@ -9,8 +9,6 @@ mod names;
 mod ports;
 mod state;
 mod tables;
-#[cfg(test)]
-mod tests;
 mod walk;
 mod words;
 

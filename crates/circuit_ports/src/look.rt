@@ -1,20 +1,12 @@
 //! What lines declare, looked up by number.
-ghost use Rattle.std.specs.Prelude.{◌≡◌, ◌<◌, length, reverse, slice_get, Some};
-ghost use Rattle.circuit_lines.specs.Sorts.{input_sort, state_sort, output_operand};
+ghost use Rattle.std.specs.Prelude.{◌≡◌, reverse};
+ghost use Rattle.circuit_lines.specs.Sorts.{input_sort, state_sort};
 ghost use Rattle.circuit_lines.specs.Nodes.{number_of};
 ghost use Rattle.circuit_rules.specs.Named.{node_sort};
 ghost use Rattle.circuit_ports.specs.Widths.{word_width, index_width};
 
-use circuit_lines::{Line, Shape};
+use circuit_lines::Shape;
 use circuit_rules::{Lines, SortOf};
-
-/// The line at a place.
-pub fn line_at(lines: &Lines, at: usize) -> &Line
-    requires { at < length lines.now }
-    ensures { slice_get lines.now at ≡ Some result.now }
-{
-    &lines.as_slice()[at]
-}
 
 /// The width of a node's words, or 0 where no node has the number.
 #[tactic(auto, using(crate::proofs::Narrow::narrow_steps))]
@@ -64,16 +56,6 @@ pub fn state_sort(shape: &Shape) -> Option<u32>
 {
     match shape {
         Shape::State(sort) => Some(*sort),
-        _ => None,
-    }
-}
-
-/// The operand of an output line.
-pub fn output_operand(shape: &Shape) -> Option<i64>
-    ensures { result ≡ output_operand shape.now }
-{
-    match shape {
-        Shape::Output(operand) => Some(*operand),
         _ => None,
     }
 }

@@ -49,7 +49,7 @@ pub fn inputs(alloc: Global, lines: &Lines) -> Result<Items<Port>, AllocError>
     let mut ports = Items::new(alloc);
     let mut names = Names::new(alloc);
     for at in 0..lines.len() {
-        let line = look::line_at(lines, at);
+        let line = lines.line_at(at);
         add_input(alloc, &mut ports, &mut names, lines, at, line)?;
     }
     Ok(ports)
@@ -69,7 +69,7 @@ fn add_output<'a>(
     ensures names { OnOk result ((q : List ℕ) → has names.new q ≡ (has names.old q || bears kind.Output q line.now)) }
 {
     let _lines = lines.as_slice();
-    if let Some(operand) = look::output_operand(&line.shape) {
+    if let Some(operand) = line.shape.output_operand() {
         let name = names.name(alloc, line.symbol.as_slice())?;
         let width = look::word_width(lines, look::number_of(operand));
         ports.push(Port {
@@ -89,7 +89,7 @@ pub fn outputs(alloc: Global, lines: &Lines) -> Result<Items<Port>, AllocError>
     let mut ports = Items::new(alloc);
     let mut names = Names::new(alloc);
     for at in 0..lines.len() {
-        let line = look::line_at(lines, at);
+        let line = lines.line_at(at);
         add_output(alloc, &mut ports, &mut names, lines, at, line)?;
     }
     Ok(ports)
@@ -141,7 +141,7 @@ pub fn states(alloc: Global, lines: &Lines) -> Result<States, AllocError>
     let mut states = Items::new(alloc);
     let mut names = Names::new(alloc);
     for at in 0..lines.len() {
-        let line = look::line_at(lines, at);
+        let line = lines.line_at(at);
         add_state(alloc, &mut states, &mut names, lines, at, line)?;
     }
     Ok(States::new(states))

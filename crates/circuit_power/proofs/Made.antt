@@ -1,6 +1,5 @@
 -- What is made, state after state, is a plan.
 use Rattle.std.proofs.Common.{◌≡◌, ℕ, zero, suc, ◌+◌, ◌<◌, ◌≤◌, ◌&&◌, ℤ, List, [], ◌∷◌, ◌++◌, Option, Some, None, Bool, true, false, map, length, length-append, replicate, reverse, drop, slice_get, slice_index_or, if◌then◌else◌, refl, sym, ◌∙◌, ap, arith, subst, inl, inr}
-use Rattle.std.specs.Option.{option_map}
 use Rattle.std.proofs.lemmas.Bool.{cases_lt}
 use Rattle.std.proofs.lemmas.List.{append-nil, append_assoc, map-append, length-map, length-reverse, length-replicate}
 use Rattle.circuit_lines.specs.declared.line.Line.{Line}
@@ -9,6 +8,7 @@ use Rattle.circuit_lines.specs.declared.line.Shape.TheVariants as shape
 use Rattle.circuit_lines.specs.Nodes.{size, number_of, init_of}
 use Rattle.circuit_lines.specs.Sorts.{sort_width, sort_index, state_sort}
 use Rattle.circuit_rules.specs.Rules.{AreRuled}
+use Rattle.circuit_rules.proofs.Small.{few-ruled, few-lines}
 use Rattle.circuit_nodes.specs.declared.node.Node.{Node}
 use Rattle.circuit_nodes.specs.declared.node.Node.TheVariants as node
 use Rattle.circuit_nodes.specs.declared.power.Start.{Start}
@@ -33,9 +33,9 @@ use Rattle.circuit_power.specs.declared.plan.Stage.{Stage}
 use Rattle.circuit_power.specs.declared.plan.Plan.{Plan}
 use Rattle.circuit_power.specs.Stored.{stored, stored_state, stored_from, stored_words}
 use Rattle.circuit_power.specs.Plans.{init_fresh, stage_of, start_of, starts_of, Gives, AreStages, IsPlan}
-use Rattle.circuit_power.specs.Making.{line_of, fresh_by, placed_cells, ordinals, moved_to, operand_of, stage_by, IsOrdered, AreStaged}
+use Rattle.circuit_power.specs.Making.{line_of, fresh_by, placed_cells, ordinals, moved_to, init_operand, stage_by, IsOrdered, AreStaged}
 use Rattle.circuit_power.proofs.Standing.{Ascend}
-use Rattle.circuit_power.proofs.Ruled.{few-lines, begins, ascending}
+use Rattle.circuit_power.proofs.Ruled.{begins, ascending}
 use Rattle.circuit_power.proofs.Ranked.{AreFew, rank-below}
 use Rattle.circuit_power.proofs.Known.{known-place, fresh-known}
 use Rattle.circuit_power.proofs.Numbered.{some-words, Behind, behind-more, number-here, HasOrdinal, has-ordinal}
@@ -52,16 +52,16 @@ AreMade all place ranks order k first (s ∷ ss) (t ∷ ts) =
     × IsPrefix ranks order (k + 1) t.start.nodes
     × AreMade all place ranks order (k + 1) (first + size s.cell.index) ss ts
 
--- the same as they are made, where operands are found by state
-staged-made : (all : List Line) (place : ℕ → ℕ) (found : ℕ → Option Operand) (ranks order : List ℕ) (k first : ℕ) (ss : List State) (ts : List Stage) → ((q : ℕ) → found q ≡ option_map (operand_of all place) (init_of all q)) → AreStaged found ranks order k first ss ts → AreMade all place ranks order k first ss ts
-staged-made all place found ranks order k first [] [] h staged = tt
-staged-made all place found ranks order k first [] (t ∷ ts) h staged = staged
-staged-made all place found ranks order k first (s ∷ ss) [] h staged = staged
-staged-made all place found ranks order k first (s ∷ ss) (t ∷ ts) h staged =
-    let same : fresh_by s.cell.index (found s.cell.number) ≡ init_fresh all place s.cell.index (init_of all s.cell.number) = ap (fresh_by s.cell.index) (h s.cell.number) ∙ fresh-known all place s.cell.index (init_of all s.cell.number) in (
+-- the same as they are made
+staged-made : (all : List Line) (place : ℕ → ℕ) (ranks order : List ℕ) (k first : ℕ) (ss : List State) (ts : List Stage) → AreStaged (init_operand all place) ranks order k first ss ts → AreMade all place ranks order k first ss ts
+staged-made all place ranks order k first [] [] staged = tt
+staged-made all place ranks order k first [] (t ∷ ts) staged = staged
+staged-made all place ranks order k first (s ∷ ss) [] staged = staged
+staged-made all place ranks order k first (s ∷ ss) (t ∷ ts) staged =
+    let same : fresh_by s.cell.index (init_operand all place s.cell.number) ≡ init_fresh all place s.cell.index (init_of all s.cell.number) = fresh-known all place s.cell.index (init_of all s.cell.number) in (
       staged.0 ∙ (λ i. record { start = record { first = first; words = size s.cell.index; nodes = t.start.nodes; fresh = same i }; is_cell = s.is_cell }),
       staged.1,
-      staged-made all place found ranks order (k + 1) (first + size s.cell.index) ss ts h staged.2,
+      staged-made all place ranks order (k + 1) (first + size s.cell.index) ss ts staged.2,
     )
 
 -- one more state, whatever follows
@@ -209,7 +209,7 @@ gives lines ss o p i n s at prefix v state e =
     let q = place_of all (number_of v) in
     let g = given [] state in
     let b = begins all p.ruled s.cell.number v e in
-    let small : length all ≤ 1000000 = few-lines all p.ruled in
+    let small : length all ≤ 1000000 = few-ruled all p.ruled in
     let long : length ns ≡ length all = length-nodes_of (stored lines) all in
     let whole : length all ≡ length lines = length-reverse lines in
     let known : q < length all = known-place all (number_of v) b.known in
@@ -312,8 +312,8 @@ made-plan lines ss o ts plan p made is_nodes is_stages is_words =
     }
 
 -- the same of what is made step by step
-pub plan-made : (lines : List Line) (ss : List State) (o : Order) (found : ℕ → Option Operand) (ts : List Stage) (nodes ms : List Node) (cells : List Cell) (numbers : List ℕ) (plan : Plan) → AreRuled (reverse lines) → ss ≡ tables.states_among (reverse lines) (reverse lines) → cells ≡ placed_cells 0 ss → nodes ≡ nodes_of cells (reverse lines) → numbers ≡ ordinals 0 ss → IsOrdered nodes numbers o → length o.order ≤ no_place → ((q : ℕ) → found q ≡ option_map (operand_of (reverse lines) (moved_to o.places)) (init_of (reverse lines) q)) → ms ≡ reordered nodes o.places o.order → AreStaged found o.ranks o.order 0 0 ss ts → plan.nodes ≡ ms → plan.stages ≡ ts → plan.words ≡ length numbers → IsPlan lines plan
-plan-made lines ss o found ts nodes ms cells numbers plan r is_states is_cells is_nodes is_numbers ordered few is_found is_moved staged is_ms is_ts is_words =
+pub plan-made : (lines : List Line) (ss : List State) (o : Order) (ts : List Stage) (nodes ms : List Node) (cells : List Cell) (numbers : List ℕ) (plan : Plan) → AreRuled (reverse lines) → ss ≡ tables.states_among (reverse lines) (reverse lines) → cells ≡ placed_cells 0 ss → nodes ≡ nodes_of cells (reverse lines) → numbers ≡ ordinals 0 ss → IsOrdered nodes numbers o → length o.order ≤ no_place → ms ≡ reordered nodes o.places o.order → AreStaged (init_operand (reverse lines) (moved_to o.places)) o.ranks o.order 0 0 ss ts → plan.nodes ≡ ms → plan.stages ≡ ts → plan.words ≡ length numbers → IsPlan lines plan
+plan-made lines ss o ts nodes ms cells numbers plan r is_states is_cells is_nodes is_numbers ordered few is_moved staged is_ms is_ts is_words =
     let all = reverse lines in
     let states : map (line_of all) ss ≡ states_of lines = ap (map (line_of all)) is_states ∙ lines-of all all in
     let all_cells : cells ≡ stored lines = is_cells ∙ (placed-stored all 0 ss ∙ ap (stored_from 0) states) in
@@ -324,10 +324,10 @@ plan-made lines ss o found ts nodes ms cells numbers plan r is_states is_cells i
       ordered = subst (λ (z : List ℕ). IsOrdered (nodes_of (stored lines) all) z o) is_numbers (subst (λ (z : List Node). IsOrdered z numbers o) all_nodes ordered);
       few = few;
     } in
-    made-plan lines ss o ts plan parts (staged-made all (moved_to o.places) found o.ranks o.order 0 0 ss ts is_found staged) (is_ms ∙ (is_moved ∙ ap (λ (z : List Node). reordered z o.places o.order) all_nodes)) is_ts (is_words ∙ ap length is_numbers)
+    made-plan lines ss o ts plan parts (staged-made all (moved_to o.places) o.ranks o.order 0 0 ss ts staged) (is_ms ∙ (is_moved ∙ ap (λ (z : List Node). reordered z o.places o.order) all_nodes)) is_ts (is_words ∙ ap length is_numbers)
 
 pub lines-few : (lines : List Line) → AreRuled (reverse lines) → length lines ≤ no_place
-lines-few lines r = omega (arith, few-lines (reverse lines) r, length-reverse lines)
+lines-few lines r = omega (arith, few-lines lines r)
 
 pub nodes-long : (cells : List Cell) (lines : List Line) → length (nodes_of cells (reverse lines)) ≡ length lines
 nodes-long cells lines = length-nodes_of cells (reverse lines) ∙ length-reverse lines

@@ -1,9 +1,10 @@
 -- A plan gives the state after a power-cycle, and the factory state.
 use Rattle.std.proofs.Common.{◌≡◌, ℕ, zero, suc, ◌+◌, ◌≤◌, ◌&&◌, List, [], ◌∷◌, Some, Bool, true, false, length, replicate, reverse, drop, slice_get, if◌then◌else◌, refl, sym, ◌∙◌, ap, arith, subst}
-use Rattle.std.proofs.lemmas.List.{length-reverse, length-replicate}
+use Rattle.std.proofs.lemmas.List.{length-replicate}
 use Rattle.knox_words.specs.Bits.{Bits}
 use Rattle.circuit_lines.specs.declared.line.Line.{Line}
 use Rattle.circuit_rules.specs.Rules.{AreRuled}
+use Rattle.circuit_rules.proofs.Small.{few-lines}
 use Rattle.circuit_nodes.specs.declared.node.Node.{Node}
 use Rattle.circuit_nodes.specs.declared.power.Start.{Start}
 use Rattle.circuit_nodes.specs.Starts.{built, AreWithin}
@@ -19,7 +20,7 @@ use Rattle.circuit_power.specs.Stored.{stored, stored_words}
 use Rattle.circuit_power.specs.Plans.{laid_out, start_of, starts_of, cell_words, planned_words, AreStages, IsPlan}
 use Rattle.circuit_power.proofs.Standing.{Stands}
 use Rattle.circuit_power.proofs.Growing.{Hangs, Each, Lie, grown}
-use Rattle.circuit_power.proofs.Ruled.{few-lines, begins, each-one, HasInit, have-inits, ascending}
+use Rattle.circuit_power.proofs.Ruled.{begins, each-one, HasInit, have-inits, ascending}
 use Rattle.circuit_power.proofs.Laying.{cell_sizes, cell-sizes, planned-stored, all-lie, none-lie, cells-long}
 
 all-hang : (lines : List Line) → AreRuled (reverse lines) → Each (Hangs lines) (states_of lines)
@@ -39,7 +40,7 @@ first-stands lines state r long = record {
 
 planned : (lines : List Line) (nodes : List Node) (place : ℕ → ℕ) (ts : List Stage) (laid : List Bits) (keep : List Bool) (old noise state : List Bits) → AreRuled (reverse lines) → AreStages lines nodes place 0 (states_of lines) ts → length state ≡ planned_words ts → Lie (states_of lines) keep old 0 laid → cell_words ts (starts.built nodes (starts_of ts keep) laid noise state) ≡ state_after_power lines keep old noise
 planned lines nodes place ts laid keep old noise state r are long lie =
-    let few : length lines ≤ 1000000 = omega (arith, few-lines (reverse lines) r, length-reverse lines) in
+    let few : length lines ≤ 1000000 = few-lines lines r in
     let whole : length state ≡ stored_words (states_of lines) = long ∙ planned-stored lines nodes place 0 (states_of lines) ts are in
     grown lines nodes place laid [] [] (states_of lines) ts 0 0 nothing_held keep old noise state few (first-stands lines state r whole) refl are (all-hang lines r) lie
 

@@ -1,55 +1,31 @@
 -- What the rules say of the states and of their `init` lines.
-use Rattle.std.proofs.Common.{◌≡◌, ℕ, ◌<◌, ◌≤◌, ◌==◌, nat_le, nat_lt, ℤ, pos, negsuc, List, [], ◌∷◌, ◌++◌, Option, Some, None, is_some, is_none, Bool, true, false, length, if◌then◌else◌, refl, sym, ◌∙◌, ap, arith, subst}
+use Rattle.std.proofs.Common.{◌≡◌, ℕ, ◌<◌, ◌≤◌, ℤ, pos, negsuc, List, [], ◌∷◌, ◌++◌, Option, Some, None, is_none, Bool, true, false, if◌then◌else◌, refl, sym, ◌∙◌, ap, arith, subst}
 use Rattle.std.proofs.lemmas.List.{append-nil}
-use Rattle.std.proofs.lemmas.Bool.{or_parts, leb-false, ne_eqb, eqb-true}
+use Rattle.std.proofs.lemmas.Bool.{or_parts, eqb-true}
 use Rattle.circuit_lines.specs.declared.line.Line.{Line}
 use Rattle.circuit_lines.specs.declared.line.Shape.{Shape}
 use Rattle.circuit_lines.specs.declared.line.Shape.TheVariants as shape
 use Rattle.circuit_lines.specs.Nodes.{number_of, names, named_or, init_of}
 use Rattle.circuit_lines.specs.Sorts.{init_pair, state_sort}
-use Rattle.circuit_rules.specs.declared.sort.SortOf.{SortOf}
 use Rattle.circuit_rules.specs.Named.{node_sort}
 use Rattle.circuit_rules.specs.Reached.{leaves, reached}
-use Rattle.circuit_rules.specs.Rules.{AreRuled, last_number, breaks_init, breaks_operand, is_no_operand}
-use Rattle.circuit_rules.specs.Entries.{entry_node}
+use Rattle.circuit_rules.specs.Rules.{AreRuled, last_number, breaks_init, breaks_operand}
 use Rattle.circuit_rules.proofs.Obeyed.{obeys}
-use Rattle.circuit_rules.proofs.Found.{rising, none-above, node-found}
+use Rattle.circuit_rules.proofs.Found.{rising, node-apart}
 use Rattle.circuit_meaning.specs.States.{StateLine, state_among, states_among}
 use Rattle.circuit_power.proofs.Hanging.{Free}
 use Rattle.circuit_power.proofs.Standing.{Ascend}
 use Rattle.circuit_power.proofs.Growing.{Each}
 
--- there are no more lines than the rules let
-pub few-lines : (past : List Line) → AreRuled past → length past ≤ 1000000
-few-lines [] r = omega arith
-few-lines (l ∷ before) r =
-    let near : nat_le 1000000 (length before) ≡ false = (or_parts (nat_lt 1000000 l.at) (nat_le 1000000 (length before)) (obeys before l r.0).near).1 in
-    let under : length before < 1000000 = leb-false 1000000 (length before) near in
-    omega arith
-
--- an operand that names a node among some lines
+-- a number that names a node among some lines
 abbrev pub Known : List Line → ℕ → Type 0
-Known past n = is_some (node_sort past n) ≡ true
-
--- a known number is none of a later line's
-pub other-number : (before : List Line) (l : Line) (n : ℕ) → AreRuled (l ∷ before) → Known before n → l.number == n ≡ false
-other-number before l n r known = ne_eqb l.number n (λ e.
-    let rise = rising before l r.0 in
-    let none : node_sort before n ≡ None = node-found before n ∙ ap entry_node (none-above before n r.1 (omega arith)) in
-    let bad : is_some {T = SortOf} None ≡ true = subst (λ (s : Option SortOf). is_some s ≡ true) none known in
-    cc)
+Known past n = is_none (node_sort past n) ≡ false
 
 pub still-known : (before : List Line) (l : Line) (n : ℕ) → AreRuled (l ∷ before) → Known before n → Known (l ∷ before) n
-still-known before l n r known = rw (other-number before l n r known) known
+still-known before l n r known = rw (node-apart before l n r known) known
 
 still-free : (before : List Line) (l : Line) (n x : ℕ) → AreRuled (l ∷ before) → Known before n → Free x (leaves before n) → Free x (leaves (l ∷ before) n)
-still-free before l n x r known free = rw (other-number before l n r known) free
-
-operand-known : (before : List Line) (v : ℤ) → is_no_operand before v ≡ false → Known before (number_of v)
-operand-known before v h = of (node_sort before (number_of v)) (or_parts _ _ h).0 where
-  of : (o : Option SortOf) → is_none o ≡ false → is_some o ≡ true
-  of None e = cc
-  of (Some s) e = refl
+still-free before l n x r known free = rw (node-apart before l n r known) free
 
 -- what the `init` of a state names is a node, and hangs on no input and on states before it alone
 pub record Begins (past : List Line) (n : ℕ) (v : ℤ) : Type 0 where
@@ -74,7 +50,7 @@ own-begins before (shape.Init t y u) n v operand init x w is named same =
     let second : u ≡ w = ap (right_or u) is in
     let value : u ≡ v = second ∙ same in
     let number : number_of y ≡ n = ap number_of first ∙ named-itself x n named in
-    let known : Known before (number_of u) = operand-known before u (or_parts _ _ operand).1 in
+    let known : Known before (number_of u) = (or_parts _ _ (or_parts _ _ operand).1).0 in
     let free : Free (number_of y) (reached before u) = (or_parts _ _ init).1 in
     record {
       known = subst (λ (z : ℤ). Known before (number_of z)) value known;

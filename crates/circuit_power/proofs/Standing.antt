@@ -11,6 +11,7 @@ use Rattle.circuit_meaning.specs.declared.port.Cell.{Cell}
 use Rattle.circuit_meaning.specs.States.{StateLine, cell_of}
 use Rattle.circuit_meaning.specs.Circuit.{state_value, held_from, held_by}
 use Rattle.circuit_meaning.specs.Power.{with_state}
+use Rattle.circuit_meaning.proofs.Cells.{found-first}
 use Rattle.circuit_power.specs.Stored.{stored_state, stored_from, stored_words}
 
 -- numbers above some number, each above the one before it
@@ -27,13 +28,6 @@ abbrev pub EndBefore : List Cell → ℕ → Type 0
 EndBefore cells first = (m : ℕ) (c : Cell) → cell_of cells m ≡ Some c → c.first + size c.index ≤ first
 
 -- look-ups in two lists, one behind the other
-
-pub found-first : (as' bs : List Cell) (m : ℕ) (c : Cell) → cell_of as' m ≡ Some c → cell_of (as' ++ bs) m ≡ Some c
-found-first [] bs m c h = cc
-found-first (a ∷ as') bs m c h = elim (eqb_tells a.number m) [
-  | inl p ↦ rw p.0 (sym (ap (λ (b : Bool). if b then Some a else cell_of as' m) p.0) ∙ h)
-  | inr p ↦ rw p.0 (found-first as' bs m c (sym (ap (λ (b : Bool). if b then Some a else cell_of as' m) p.0) ∙ h))
-]
 
 pub found-second : (as' bs : List Cell) (m : ℕ) → cell_of as' m ≡ None → cell_of (as' ++ bs) m ≡ cell_of bs m
 found-second [] bs m h = refl

@@ -1,5 +1,6 @@
 -- How a plan is made, state after state. No public clause cites it.
-use Rattle.std.specs.Prelude.{◌≡◌, ℕ, ◌+◌, ◌==◌, ℤ, pos, negsuc, List, [], ◌∷◌, ◌++◌, length, replicate, slice_index_or, Option, Some, None, if◌then◌else◌}
+use Rattle.std.specs.Prelude.{◌≡◌, ℕ, ◌+◌, ℤ, List, [], ◌∷◌, ◌++◌, length, replicate, slice_index_or, Option, Some, None, if◌then◌else◌}
+use Rattle.std.specs.Option.{option_map}
 use Rattle.circuit_lines.specs.declared.line.Line.{Line}
 use Rattle.circuit_lines.specs.Nodes.{size, init_of}
 use Rattle.circuit_rules.specs.Named.{operand_sort, is_arrays}
@@ -48,16 +49,9 @@ moved_to places o = slice_index_or places o no_place
 abbrev pub operand_of : List Line → (ℕ → ℕ) → ℤ → Operand
 operand_of all place v = record { arg = moved_arg place (arg_of all v); is_array = is_arrays (operand_sort all v) }
 
--- the number of a state and such an operand, by a line's pair
-abbrev pub entry : (ℤ → Operand) → Option (ℤ × ℤ) → Option (ℕ × Operand)
-entry operand None = None
-entry operand (Some (pos n, v)) = Some (n, operand v)
-entry operand (Some (negsuc n, v)) = None
-
--- the operand of a state's `init`, with one more entry
-abbrev pub entered : Option (ℕ × Operand) → ℕ → Option Operand → Option Operand
-entered None n others = others
-entered (Some (m, o)) n others = if m == n then Some o else others
+-- the operand of a state's `init`
+abbrev pub init_operand : List Line → (ℕ → ℕ) → ℕ → Option Operand
+init_operand all place n = option_map (operand_of all place) (init_of all n)
 
 -- how a state gets its words by the operand of its `init`
 abbrev pub fresh_by : Option ℕ → Option Operand → Fresh

@@ -10,6 +10,3 @@ mod order;
 mod plan;
 
 pub use plan::{Plan, Stage};
-
-#[cfg(test)]
-mod tests;

@@ -1,15 +1,13 @@
 //! Plans, made once from the lines and the states of a circuit.
 ghost use Rattle.std.specs.Prelude.{◌≡◌, ◌+◌, ◌^◌, ◌<◌, ◌≤◌, ◌++◌, ℕ, List, length, replicate, reverse, IfOk, OnOk};
-ghost use Rattle.std.specs.BTreeMap.{get};
-ghost use Rattle.std.specs.Option.{option_map};
-ghost use Rattle.std.specs.Ordering.{nat_cmp};
-ghost use Rattle.circuit_lines.specs.Nodes.{size, init_of};
+ghost use Rattle.circuit_lines.specs.Nodes.{size};
+ghost use Rattle.circuit_rules.specs.Told.{AreTold};
 ghost use Rattle.circuit_nodes.specs.Orders.{no_place, IsByRank};
 ghost use Rattle.circuit_nodes.specs.Settled.{AreBelow, IsPrefix};
 ghost use Rattle.circuit_places.specs.Resolved.{nodes_of};
 ghost use Rattle.circuit_ports.specs.Tables.{states_among};
 ghost use Rattle.circuit_power.specs.Plans.{IsPlan};
-ghost use Rattle.circuit_power.specs.Making.{line_of, placed_cell, placed_cells, ordinals, moved_to, operand_of, stage_by, IsOrdered, AreStaged};
+ghost use Rattle.circuit_power.specs.Making.{line_of, placed_cell, placed_cells, ordinals, moved_to, init_operand, stage_by, IsOrdered, AreStaged};
 
 use crate::init::{self, Operand};
 use crate::order::{self, Order};
@@ -17,13 +15,12 @@ use crate::plan::{Plan, Stage};
 use circuit_meaning::Cell;
 use circuit_nodes::{Node, Start};
 use circuit_ports::{State, States};
-use circuit_rules::Lines;
+use circuit_rules::{Lines, Pairs};
 use sqlite_items::Items;
 use std::alloc::{AllocError, Global};
-use std::collections::BTreeMap;
 
 /// How many words a state has; no memory holds as many as `u32` can't count.
-#[tactic(auto, using(circuit_logic::proofs::Small::small_steps))]
+#[tactic(auto, using(circuit_rules::proofs::Small::power_steps))]
 fn size(index: Option<u8>) -> Result<u32, AllocError>
     ensures { IfOk result (λ words. words ≡ size index) }
 {
@@ -99,19 +96,18 @@ fn ordinals(alloc: Global, states: &[State]) -> Result<Items<u32>, AllocError>
     Ok(numbers)
 }
 
-/// The stage of a state that has so many words, which begin at a place, and may hang on so many
-/// nodes.
-fn stage(found: &BTreeMap<u64, Operand>, state: &State, first: u32, words: u32, nodes: u32) -> Stage
+/// The stage of a state that has an operand of its `init` and so many words, which begin at a
+/// place, and may hang on so many nodes.
+fn stage(state: &State, init: Option<Operand>, first: u32, words: u32, nodes: u32) -> Stage
     requires { words ≡ size state.now.cell.index }
-    ensures { result ≡ stage_by nodes first state.now (get nat_cmp found.now state.now.cell.number) }
+    ensures { result ≡ stage_by nodes first state.now init }
 {
-    let operand = init::found_at(found, state.cell.number);
     Stage {
         start: Start {
             first,
             words,
             nodes,
-            fresh: init::fresh_by(state.cell.index, operand),
+            fresh: init::fresh_by(state.cell.index, init),
         },
         is_cell: state.is_cell,
     }
@@ -132,14 +128,17 @@ fn prefix(ranks: &[u32], order: &[u32], number: u32, known: u32) -> u32
 #[tactic(auto, using(crate::proofs::Made::stage_steps))]
 fn stages(
     alloc: Global,
-    found: &BTreeMap<u64, Operand>,
+    lines: &Lines,
+    pairs: &Pairs,
     states: &[State],
+    places: &[u32],
     ranks: &[u32],
     order: &[u32],
 ) -> Result<Items<Stage>, AllocError>
     requires few { length order.now ≤ no_place }
     requires order { IsByRank ranks.now order.now }
-    ensures { IfOk result (λ stages. AreStaged (get nat_cmp found.now) ranks.now order.now 0 0 states.now stages) }
+    requires told { AreTold (reverse lines.now) pairs.now }
+    ensures { IfOk result (λ stages. AreStaged (init_operand (reverse lines.now) (moved_to places.now)) ranks.now order.now 0 0 states.now stages) }
 {
     let mut stages = Items::new(alloc);
     let mut known = 0u32;
@@ -150,7 +149,8 @@ fn stages(
         ordinal = behind(ordinal, 1)?;
         known = prefix(ranks, order, ordinal, known);
         let words = size(state.cell.index)?;
-        stages.push(stage(found, state, first, words, known))?;
+        let init = init::init_operand(lines, pairs, places, state.cell.number);
+        stages.push(stage(state, init, first, words, known))?;
         first = behind(first, words)?;
         left = others;
     }
@@ -209,7 +209,7 @@ impl Plan {
         let numbers = ordinals(alloc, states)?;
         let order = line_order(alloc, lines, nodes.as_slice(), numbers.as_slice())?;
         let places = order.places.as_slice();
-        let found = init::operands(alloc, lines, places)?;
+        let pairs = circuit_rules::read_pairs(alloc, lines)?;
         let moved = circuit_nodes::reordered(
             alloc,
             nodes.as_slice(),
@@ -218,8 +218,10 @@ impl Plan {
         )?;
         let stages = stages(
             alloc,
-            &found,
+            lines,
+            &pairs,
             states,
+            places,
             order.ranks.as_slice(),
             order.order.as_slice(),
         )?;

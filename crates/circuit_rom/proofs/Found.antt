@@ -1,60 +1,34 @@
 -- The line with a number, and what other definitions look up by that number.
-use Rattle.std.proofs.Common.{◌≡◌, ℕ, ◌+◌, zero, suc, ◌<◌, ◌==◌, ◌||◌, ℤ, pos, negsuc, List, [], ◌∷◌, ◌++◌, reverse, length, slice_get, Option, Some, None, Bool, true, false, refl, sym, ◌∙◌, ap, subst, arith, inl, inr, if◌then◌else◌}
-use Rattle.std.specs.BTreeMap.{get}
-use Rattle.std.specs.Ordering.{nat_cmp}
+use Rattle.std.proofs.Common.{◌≡◌, ℕ, ◌+◌, ◌<◌, ◌==◌, ◌||◌, ℤ, pos, negsuc, List, [], ◌∷◌, ◌++◌, reverse, length, slice_get, Option, Some, None, Bool, true, false, refl, sym, ◌∙◌, ap, subst, arith, inl, inr, if◌then◌else◌}
 use Rattle.std.proofs.lemmas.Bool.{or_parts, not-false}
 use Rattle.std.proofs.lemmas.Bool.Decides.{eqb_tells}
-use Rattle.std.proofs.lemmas.List.{reverse-append, reverse-reverse}
-use Rattle.std.proofs.lemmas.Grind.{common_steps}
+use Rattle.std.proofs.lemmas.List.{reverse-append, reverse-reverse, length-reverse}
 use Rattle.knox_words.specs.Bits.{Bits}
 use Rattle.circuit_lines.specs.declared.line.Shape.{Shape}
 use Rattle.circuit_lines.specs.declared.line.Shape.TheVariants as shape
 use Rattle.circuit_lines.specs.declared.line.Line.{Line}
-use Rattle.circuit_lines.specs.Sorts.{sort_named, sort_width, literal, next_pair, init_pair}
-use Rattle.circuit_lines.specs.Nodes.{number_of, named_or}
+use Rattle.circuit_lines.specs.Sorts.{sort_named, sort_width, literal}
+use Rattle.circuit_lines.specs.Nodes.{number_of}
 use Rattle.circuit_rules.specs.declared.sort.SortOf.{SortOf}
 use Rattle.circuit_rules.specs.declared.sort.SortOf.TheVariants.{Words, Arrays}
 use Rattle.circuit_rules.specs.Literals.{literal_by}
 use Rattle.circuit_rules.specs.Named.{place_of, sort_of, sort_at, node_sort, is_words, width_of}
 use Rattle.circuit_rules.specs.Rules.{AreRuled, breaks_operand, breaks_sort, is_no_operand}
 use Rattle.circuit_rules.proofs.Obeyed.{obeys}
-use Rattle.circuit_rules.proofs.Found.{rising}
+use Rattle.circuit_rules.proofs.Found.{rising, node-low}
 use Rattle.circuit_rules.proofs.Shaped.{word-widths}
+use Rattle.circuit_rules.proofs.Small.{place-inside}
+use Rattle.circuit_nodes.proofs.Lists.{slice_get-append}
 use Rattle.circuit_meaning.specs.Rom.{literal_of, constant_operand, link, puts_of, chain}
-use Rattle.circuit_rom.specs.declared.pairs.Pairs.{Pairs}
 use Rattle.circuit_rom.specs.declared.link.Link.{Link}
 use Rattle.circuit_rom.specs.declared.link.Link.TheVariants as step
 use Rattle.circuit_rom.specs.Layers.{chain_by, IsBelow}
-use Rattle.circuit_rom.specs.Lookup.{line_of, AreTold}
-use Rattle.circuit_rom.proofs.Initial.{node-low, operand-apart, more-operand}
-
--- one line more is told
-pub told-more : (before : List Line) (l : Line) (old new : Pairs) → ((q : ℕ) → get nat_cmp new.nexts q ≡ named_or (next_pair l.shape) q (get nat_cmp old.nexts q)) → ((q : ℕ) → get nat_cmp new.inits q ≡ named_or (init_pair l.shape) q (get nat_cmp old.inits q)) → AreTold before old → AreTold (l ∷ before) new
-told-more before l old new n i t = record {
-  nexts = λ q. n q ∙ ap (named_or (next_pair l.shape) q) (t.nexts q);
-  inits = λ q. i q ∙ ap (named_or (init_pair l.shape) q) (t.inits q);
-}
-
-pub ruleset told_steps = (told-more)
-
-place-within : (before : List Line) (n p : ℕ) → place_of before n ≡ Some p → p < length before
-place-within [] n p h = cc
-place-within (l ∷ before) n p h = chosen (l.number == n) h (place-within before n p) where
-  chosen : (b : Bool) → (if b then Some (length before) else place_of before n) ≡ Some p → (place_of before n ≡ Some p → p < length before) → p < length (l ∷ before)
-  chosen true h below = let e : length before ≡ p = cc in omega (arith, e)
-  chosen false h below = let lt = below h in omega (arith, lt)
-
-pub get-front : {A : Type 0} (xs ys : List A) (k : ℕ) → k < length xs → slice_get (xs ++ ys) k ≡ slice_get xs k
-get-front [] ys k h = absurd (omega arith)
-get-front (x ∷ xs) ys zero h = refl
-get-front (x ∷ xs) ys (suc k) h = get-front xs ys k (omega arith)
+use Rattle.circuit_rom.specs.Lookup.{line_of}
+use Rattle.circuit_rom.proofs.Initial.{operand-apart, more-operand}
 
 pub get-last : {A : Type 0} (xs : List A) (y : A) → slice_get (xs ++ y ∷ []) (length xs) ≡ Some y
 get-last [] y = refl
 get-last (x ∷ xs) y = get-last xs y
-
-length-reverse : (ls : List Line) → length (reverse ls) ≡ length ls
-length-reverse ls = grind (arith, common_steps)
 
 snoc-reverse : (l : Line) (ls : List Line) → reverse (l ∷ ls) ≡ reverse ls ++ l ∷ []
 snoc-reverse l ls = reverse-append (l ∷ []) ls
@@ -69,8 +43,8 @@ line-placed (l ∷ before) n p h = elim (eqb_tells l.number n) [
       rw (snoc-reverse l before, q.0, sym e, sym (length-reverse before)) (get-last (reverse before) l)
   | inr q ↦
       let below : place_of before n ≡ Some p = sym (ap (λ (b : Bool). if b then Some (length before) else place_of before n) q.0) ∙ h in
-      let within : p < length (reverse before) = rw (length-reverse before) (place-within before n p below) in
-      rw (snoc-reverse l before, q.0) (get-front (reverse before) (l ∷ []) p within ∙ line-placed before n p below)
+      let within : p < length (reverse before) = rw (length-reverse before) (place-inside before n p below) in
+      rw (snoc-reverse l before, q.0) (slice_get-append (reverse before) (l ∷ []) p within ∙ line-placed before n p below)
 ]
 
 pub line-nowhere : (before : List Line) (n : ℕ) → place_of before n ≡ None → line_of before n ≡ None

@@ -1,6 +1,6 @@
 -- What the `init` of a state gives, against what is known of it.
-use Rattle.std.proofs.Common.{◌≡◌, ℕ, ◌<◌, ◌≤◌, ◌^◌, ◌==◌, ◌&&◌, ℤ, pos, negsuc, List, [], ◌∷◌, replicate, length, Option, Some, None, is_none, Bool, true, false, refl, sym, ◌∙◌, ap, subst, arith, inl, inr, if◌then◌else◌}
-use Rattle.std.proofs.lemmas.Bool.{or_parts, not-false, ne_eqb, cases_lt}
+use Rattle.std.proofs.Common.{◌≡◌, ℕ, ◌<◌, ◌^◌, ◌==◌, ◌&&◌, ℤ, pos, negsuc, List, [], ◌∷◌, replicate, length, Option, Some, None, Bool, true, false, refl, sym, ◌∙◌, ap, subst, arith, inl, inr, if◌then◌else◌}
+use Rattle.std.proofs.lemmas.Bool.{or_parts, not-false}
 use Rattle.std.proofs.lemmas.Bool.Decides.{eqb_tells}
 use Rattle.std.proofs.lemmas.List.{length-replicate}
 use Rattle.knox_words.specs.Bits.{Bits}
@@ -13,10 +13,9 @@ use Rattle.circuit_rules.specs.declared.sort.SortOf.{SortOf}
 use Rattle.circuit_rules.specs.declared.sort.SortOf.TheVariants.{Words, Arrays}
 use Rattle.circuit_rules.specs.Named.{sort_of, sort_at, node_sort, operand_sort, is_negative, are_one, is_words, is_arrays}
 use Rattle.circuit_rules.specs.Operators.{write_sort}
-use Rattle.circuit_rules.specs.Rules.{AreRuled, breaks_operand, breaks_width, is_no_operand, last_number}
-use Rattle.circuit_rules.specs.Entries.{entry_node}
+use Rattle.circuit_rules.specs.Rules.{AreRuled, breaks_operand, breaks_width, is_no_operand}
 use Rattle.circuit_rules.proofs.Obeyed.{obeys}
-use Rattle.circuit_rules.proofs.Found.{rising, none-above, node-found}
+use Rattle.circuit_rules.proofs.Found.{node-apart}
 use Rattle.circuit_nodes.specs.Values.{Value, constant}
 use Rattle.circuit_nodes.specs.Ticks.{first_words}
 use Rattle.circuit_nodes.proofs.Chains.{first_words-constant}
@@ -26,23 +25,7 @@ use Rattle.circuit_meaning.specs.Rom.{Put, constant_operand, is_bare, puts_of, c
 use Rattle.circuit_rom.proofs.Constant.{operand-value, literal-value, bare-puts, chain-value}
 use Rattle.circuit_rom.proofs.Agreeing.{first_of-same, agree-first, length-first_of}
 
--- a node's number is at most the last one
-pub node-low : (before : List Line) (n : ℕ) → AreRuled before → is_none (node_sort before n) ≡ false → n ≤ last_number before
-node-low before n r h = elim (cases_lt (last_number before) n) [
-  | inl lt ↦
-      let none : node_sort before n ≡ None = node-found before n ∙ ap entry_node (none-above before n r lt) in
-      let bad : is_none {T = SortOf} None ≡ false = subst (λ (s : Option SortOf). is_none s ≡ false) none h in
-      cc
-  | inr le ↦ le
-]
-
--- so it is that of no line which follows
-pub node-apart : (before : List Line) (l : Line) (n : ℕ) → AreRuled (l ∷ before) → is_none (node_sort before n) ≡ false → l.number == n ≡ false
-node-apart before l n r h = ne_eqb l.number n (λ e.
-    let rise = rising before l r.0 in
-    let low = node-low before n r.1 h in
-    absurd (omega arith))
-
+-- an operand has the number of no line which follows
 pub operand-apart : (before : List Line) (l : Line) (a : ℤ) → AreRuled (l ∷ before) → is_no_operand before a ≡ false → l.number == number_of a ≡ false
 operand-apart before l a r h = node-apart before l (number_of a) r (or_parts _ _ h).0
 

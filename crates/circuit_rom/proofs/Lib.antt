@@ -5,5 +5,6 @@ pub mod Building
 pub mod Ticking
 pub mod Found
 pub mod Walked
+pub mod Remembered
 pub mod Gathered
 pub mod Widths

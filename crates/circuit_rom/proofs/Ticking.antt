@@ -20,6 +20,7 @@ use Rattle.circuit_meaning.specs.Meaning.{Given, given, array, held_or, level, v
 use Rattle.circuit_meaning.specs.States.{words_in, state_cell, if_some, cell_among, cells_among, cell_of}
 use Rattle.circuit_meaning.specs.Circuit.{cells_of, state_value, held_from, held_by, operand_words, words_or_zeros, next_words, state_after_tick}
 use Rattle.circuit_meaning.specs.Rom.{is_itself, init_known, rom_of_cell, roms, rom_words, agree}
+use Rattle.circuit_meaning.proofs.Cells.{found-first}
 use Rattle.circuit_widths.proofs.Celled.{ArePlaced, cells-placed}
 use Rattle.circuit_rom.proofs.Agreeing.{agree-append, agree-parted}
 use Rattle.circuit_rom.proofs.Building.{length-rom, nothing-known, Match}
@@ -38,13 +39,6 @@ AreStanding g before cells (c ∷ cs) = IsStanding g before cells c × AreStandi
 standing-append : (g : Given) (before : List Line) (cells cs ds : List Cell) → AreStanding g before cells cs → AreStanding g before cells ds → AreStanding g before cells (cs ++ ds)
 standing-append g before cells [] ds a b = b
 standing-append g before cells (c ∷ cs) ds a b = (a.0, standing-append g before cells cs ds a.1 b)
-
-found-first : (cells more : List Cell) (n : ℕ) (c : Cell) → cell_of cells n ≡ Some c → cell_of (cells ++ more) n ≡ Some c
-found-first [] more n c h = cc
-found-first (d ∷ cells) more n c h = chosen (d.number == n) h (found-first cells more n c) where
-  chosen : (b : Bool) → (if b then Some d else cell_of cells n) ≡ Some c → (cell_of cells n ≡ Some c → cell_of (cells ++ more) n ≡ Some c) → (if b then Some d else cell_of (cells ++ more) n) ≡ Some c
-  chosen true h below = h
-  chosen false h below = below h
 
 -- a number above all of some lines is that of none of their cells
 found-last : (g : Given) (before : List Line) (cells cs : List Cell) (c : Cell) → AreStanding g before cells cs → last_number before < c.number → cell_of (cs ++ c ∷ []) c.number ≡ Some c

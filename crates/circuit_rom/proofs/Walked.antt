@@ -1,26 +1,22 @@
--- A chain that is walked from the newest write to the base, against the words written last.
+-- Writes that are laid beneath one another, from the newest to the oldest, against the words written
+-- last.
 use Rattle.std.proofs.Common.{◌≡◌, ℕ, zero, suc, ◌<◌, ◌≤◌, ◌==◌, List, [], ◌∷◌, ◌++◌, length, replicate, set, slice_get, Option, Some, None, Bool, true, false, refl, sym, ◌∙◌, ap, subst, arith, eq-eqb, inl, inr, if◌then◌else◌}
 use Rattle.std.proofs.lemmas.Bool.{cases_lt, ne_eqb}
 use Rattle.std.proofs.lemmas.Bool.Decides.{eqb_tells}
 use Rattle.std.proofs.lemmas.Option.{slice_get_past}
 use Rattle.knox_words.specs.Bits.{Bits}
-use Rattle.circuit_lines.specs.declared.line.Line.{Line}
-use Rattle.circuit_meaning.specs.Rom.{Put, chain, written_last, first_of, known_by}
-use Rattle.circuit_rom.specs.declared.link.Link.TheVariants as link
-use Rattle.circuit_rom.specs.Layers.{over, chain_by, with_word, put_under, over_puts, layered}
+use Rattle.circuit_meaning.specs.Rom.{Put, written_last, first_of}
+use Rattle.circuit_rom.specs.Layers.{with_word, put_under, over_puts}
+use Rattle.circuit_rom.specs.Memory.{first_known}
 use Rattle.circuit_rom.proofs.Agreeing.{length-first_of, first_of-same}
-use Rattle.circuit_rom.proofs.Found.{get-front, get-last}
-
--- what is known, or else what is written beneath
-abbrev or_written : Option Bits → Option Bits → Option Bits
-or_written None o = o
-or_written (Some w) o = Some w
+use Rattle.circuit_nodes.proofs.Lists.{slice_get-append}
+use Rattle.circuit_rom.proofs.Found.{get-last}
 
 -- what is known with a write beneath it
 abbrev beneath : (ℕ → Option Bits) → ℕ → Bits → ℕ → Option Bits
-beneath f i w k = or_written (f k) (if k == i then Some w else None)
+beneath f i w k = first_known (f k) (if k == i then Some w else None)
 
-unchanged : (o : Option Bits) → o ≡ or_written o None
+unchanged : (o : Option Bits) → o ≡ first_known o None
 unchanged None = refl
 unchanged (Some v) = refl
 
@@ -31,7 +27,7 @@ first-equal f g (suc n) h = rw (first-equal f g n h, h n) refl
 get-first : (f : ℕ → Option Bits) (n i : ℕ) → i < n → slice_get (first_of f n) i ≡ Some (f i)
 get-first f zero i h = absurd (omega arith)
 get-first f (suc n) i h = elim (cases_lt i n) [
-  | inl lt ↦ get-front (first_of f n) (f n ∷ []) i (rw (length-first_of f n) lt) ∙ get-first f n i lt
+  | inl lt ↦ slice_get-append (first_of f n) (f n ∷ []) i (rw (length-first_of f n) lt) ∙ get-first f n i lt
   | inr le ↦
       let e : i ≡ n = omega (arith, h, le) in
       rw e (subst (λ m. slice_get (first_of f n ++ f n ∷ []) m ≡ Some (f n)) (length-first_of f n) (get-last (first_of f n) (f n)))
@@ -72,7 +68,7 @@ put-first f n i w = elim (cases_lt i n) [
       let none : slice_get (first_of f n) i ≡ None = slice_get_past (first_of f n) i (rw (length-first_of f n) le) in
       ap (with_word (first_of f n) i w) none ∙ first-past f (beneath f i w) n i le (λ k lt. rw (ne_eqb k i (λ q. absurd (omega arith))) (unchanged (f k)))
 ] where
-  known : (o : Option Bits) (v : Bits) (p : Option Bits) → o ≡ Some v → o ≡ or_written o p
+  known : (o : Option Bits) (v : Bits) (p : Option Bits) → o ≡ Some v → o ≡ first_known o p
   known None v p e = cc
   known (Some u) v p e = refl
 
@@ -91,26 +87,18 @@ put-first f n i w = elim (cases_lt i n) [
       ])
 
 -- words over writes are those that are known, and else those written last
-over-first : (f : ℕ → Option Bits) (n : ℕ) (puts : List Put) → over_puts (first_of f n) puts ≡ first_of (λ k. or_written (f k) (written_last puts k)) n
-over-first f n [] = first-equal f (λ k. or_written (f k) None) n (λ k. unchanged (f k))
+over-first : (f : ℕ → Option Bits) (n : ℕ) (puts : List Put) → over_puts (first_of f n) puts ≡ first_of (λ k. first_known (f k) (written_last puts k)) n
+over-first f n [] = first-equal f (λ k. first_known (f k) None) n (λ k. unchanged (f k))
 over-first f n (p ∷ puts) =
     ap (λ ws. over_puts ws puts) (put-first f n p.index p.word)
     ∙ over-first (beneath f p.index p.word) n puts
-    ∙ first-equal (λ k. or_written (beneath f p.index p.word k) (written_last puts k)) (λ k. or_written (f k) (written_last (p ∷ puts) k)) n (λ k. both (f k) (k == p.index) (written_last puts k))
+    ∙ first-equal (λ k. first_known (beneath f p.index p.word k) (written_last puts k)) (λ k. first_known (f k) (written_last (p ∷ puts) k)) n (λ k. both (f k) (k == p.index) (written_last puts k))
   where
-    both : (o : Option Bits) (b : Bool) (r : Option Bits) → or_written (or_written o (if b then Some p.word else None)) r ≡ or_written o (if b then Some p.word else r)
+    both : (o : Option Bits) (b : Bool) (r : Option Bits) → first_known (first_known o (if b then Some p.word else None)) r ≡ first_known o (if b then Some p.word else r)
     both (Some v) b r = refl
     both None true r = refl
     both None false r = refl
 
--- a chain that is walked over nothing known has the words written last
-pub walked : (n : ℕ) (c : Option (List Put)) → layered n (replicate n None) c ≡ known_by n None c
-walked n None = refl
-walked n (Some puts) = ap (λ ws. over_puts ws puts) (sym (first_of-same None n)) ∙ over-first (λ k. None) n puts
-
--- one link of the walk
-pub walked-link : (all : List Line) (n : ℕ) (known : List (Option Bits)) (i : ℕ) (w : Bits) (a : ℕ) → layered n (put_under known i w) (chain all all a) ≡ layered n known (chain_by all (link.Write i w a))
-walked-link all n known i w a = by (chain all all a) where
-  by : (c : Option (List Put)) → layered n (put_under known i w) c ≡ layered n known (over (record { index = i; word = w }) c)
-  by None = refl
-  by (Some puts) = refl
+-- writes over nothing known are the words written last
+pub walked : (n : ℕ) (puts : List Put) → over_puts (replicate n None) puts ≡ first_of (written_last puts) n
+walked n puts = ap (λ ws. over_puts ws puts) (sym (first_of-same None n)) ∙ over-first (λ k. None) n puts

@@ -1,5 +1,5 @@
 -- A chain of writes, walked from the newest write to the base. No public clause cites it.
-use Rattle.std.specs.Prelude.{◌<◌, ℕ, List, [], ◌∷◌, replicate, slice_get, slice_set, Option, Some, None}
+use Rattle.std.specs.Prelude.{◌<◌, ℕ, List, [], ◌∷◌, slice_get, slice_set, Option, Some, None}
 use Rattle.knox_words.specs.Bits.{Bits}
 use Rattle.circuit_lines.specs.declared.line.Line.{Line}
 use Rattle.circuit_meaning.specs.Rom.{Put, chain}
@@ -29,11 +29,6 @@ put_under known i w = with_word known i w (slice_get known i)
 abbrev pub over_puts : List (Option Bits) → List Put → List (Option Bits)
 over_puts known [] = known
 over_puts known (p ∷ puts) = over_puts (put_under known p.index p.word) puts
-
--- the n words of which some are known, and the others are those of a chain; none where it is no chain
-abbrev pub layered : ℕ → List (Option Bits) → Option (List Put) → List (Option Bits)
-layered n known None = replicate n None
-layered n known (Some puts) = over_puts known puts
 
 -- a write stands over an array whose number is below another
 abbrev pub IsBelow : Link → ℕ → Type 0

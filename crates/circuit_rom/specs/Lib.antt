@@ -1,3 +1,4 @@
 pub mod Lookup
 pub mod Layers
+pub mod Memory
 pub mod Examples

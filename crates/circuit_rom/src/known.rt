@@ -1,49 +1,34 @@
 //! The words of a circuit's cells that are known, and whether words are those.
 ghost use Rattle.std.specs.Prelude.{◌≡◌, ◌<◌, ◌≤◌, ◌^◌, ◌&&◌, ℤ, Option, Some, None, reverse, replicate, length, slice_get, slice_index_or, IfOk, IfSome};
 ghost use Rattle.circuit_lines.specs.Nodes.{next_of, init_of, size};
+ghost use Rattle.circuit_rules.specs.Rules.{IsSmall};
+ghost use Rattle.circuit_rules.specs.Told.{AreTold};
 ghost use Rattle.circuit_meaning.specs.Circuit.{cells_of};
 ghost use Rattle.circuit_meaning.specs.Rom.{is_itself, known_by, init_known, rom_of_cell, rom_words, is_known, agree};
-ghost use Rattle.circuit_rom.specs.Lookup.{AreTold, IsSmall};
+ghost use Rattle.circuit_rom.specs.Memory.{IsRemembered};
 
+use crate::cell::{cell_at, is_itself, size};
 use crate::chain::{chain_words, repeated};
 use crate::lookup::constant_operand;
-use crate::pairs::{self, Pairs};
+use crate::memory::Memory;
+use crate::starts::remembered;
 use circuit_meaning::Cell;
-use circuit_rules::Lines;
+use circuit_rules::{Lines, Pairs};
 use knox_words::Word;
 use sqlite_items::Items;
 use std::alloc::{AllocError, Global};
-
-/// How many words a word or an array has.
-fn size(index: Option<u8>) -> usize
-    requires { IsSmall index }
-    ensures { result ≡ size index }
-{
-    match index {
-        None => 1,
-        Some(index) => 1usize << index,
-    }
-}
-
-/// Whether the `next` of a state is the state itself.
-fn is_itself(number: u32, next: Option<i64>) -> bool
-    ensures { result ≡ is_itself number next }
-{
-    match next {
-        None => false,
-        Some(operand) => operand == i64::from(number),
-    }
-}
 
 /// What is known of the words of a cell by its `init`.
 fn init_known(
     alloc: Global,
     lines: &Lines,
     pairs: &Pairs,
+    memory: &Memory,
     count: usize,
     init: Option<i64>,
 ) -> Result<Items<Option<Word>>, AllocError>
-    requires { AreTold (reverse lines.now) pairs.now }
+    requires told { AreTold (reverse lines.now) pairs.now }
+    requires remembered { IsRemembered (reverse lines.now) memory.now }
     ensures { IfOk result (λ known. known ≡ init_known (reverse lines.now) count init) }
 {
     let Some(operand) = init else {
@@ -51,7 +36,7 @@ fn init_known(
     };
     match constant_operand(lines, operand) {
         Some(word) => repeated(alloc, Some(word), count),
-        None => chain_words(alloc, lines, pairs, operand.unsigned_abs(), count),
+        None => chain_words(alloc, lines, pairs, memory, operand.unsigned_abs(), count),
     }
 }
 
@@ -60,44 +45,46 @@ fn cell_known(
     alloc: Global,
     lines: &Lines,
     pairs: &Pairs,
+    memory: &Memory,
     cell: &Cell,
 ) -> Result<Items<Option<Word>>, AllocError>
     requires told { AreTold (reverse lines.now) pairs.now }
+    requires remembered { IsRemembered (reverse lines.now) memory.now }
     requires small { IsSmall cell.now.index }
     ensures { IfOk result (λ known. known ≡ rom_of_cell (reverse lines.now) cell.now) }
 {
     let number = u64::from(cell.number);
     let count = size(cell.index);
     if is_itself(cell.number, pairs.next(lines, number)) {
-        init_known(alloc, lines, pairs, count, pairs.init(lines, number))
+        init_known(
+            alloc,
+            lines,
+            pairs,
+            memory,
+            count,
+            pairs.init(lines, number),
+        )
     } else {
         repeated(alloc, None, count)
     }
 }
 
-fn cell_at(cells: &[Cell], at: usize) -> &Cell
-    requires { at < length cells.now }
-    ensures { slice_get cells.now at ≡ Some result.now }
-{
-    &cells[at]
-}
-
 /// The value of each device word that is a ROM word, where `cells` are the cells of the lines.
 /// `Err` is want of memory.
 ///
-/// It takes time in proportion to the lines, the words of the cells and the lengths of the chains
-/// of writes that they begin with, but for look-ups by number.
+/// It takes time in proportion to the lines and the words of the cells, but for look-ups by number.
 #[tactic(auto, using(crate::proofs::Gathered::gather_steps))]
 pub fn roms(alloc: Global, lines: &Lines, cells: &[Cell]) -> Result<Items<Option<Word>>, AllocError>
     requires { cells.now ≡ cells_of lines.now }
     ensures { IfOk result (λ known. known ≡ rom_words lines.now) }
 {
     let _all = lines.as_slice();
-    let pairs = pairs::read_pairs(alloc, lines)?;
+    let pairs = circuit_rules::read_pairs(alloc, lines)?;
+    let memory = remembered(alloc, lines, &pairs, cells)?;
     let mut words = Items::new(alloc);
     for at in 0..cells.len() {
         let cell = cell_at(cells, at);
-        words.append(cell_known(alloc, lines, &pairs, cell)?)?;
+        words.append(cell_known(alloc, lines, &pairs, &memory, cell)?)?;
     }
     Ok(words)
 }

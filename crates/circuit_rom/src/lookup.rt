@@ -3,14 +3,14 @@ ghost use Rattle.std.specs.Prelude.{◌≡◌, ◌+◌, List, reverse};
 ghost use Rattle.std.specs.Option.{option_copied};
 ghost use Rattle.circuit_lines.specs.declared.line.Line.{Line};
 ghost use Rattle.circuit_rules.specs.Named.{node_sort, width_of};
-ghost use Rattle.circuit_meaning.specs.Rom.{constant_operand, literal_of, link, chain};
-ghost use Rattle.circuit_rom.specs.Lookup.{line_of, AreTold};
+ghost use Rattle.circuit_rules.specs.Told.{AreTold};
+ghost use Rattle.circuit_meaning.specs.Rom.{is_bare, constant_operand, literal_of, link, chain};
+ghost use Rattle.circuit_rom.specs.Lookup.{line_of};
 ghost use Rattle.circuit_rom.specs.Layers.{chain_by, IsBelow};
 
 use crate::link::Link;
-use crate::pairs::Pairs;
 use circuit_lines::{Line, Shape};
-use circuit_rules::{Lines, SortOf};
+use circuit_rules::{Lines, Pairs, SortOf};
 use knox_words::Word;
 
 /// The line with a number.
@@ -67,6 +67,17 @@ fn write_link(index: Option<Word>, word: Option<Word>, array: u64) -> Link
     }
 }
 
+/// Whether a state has neither a `next` nor an `init`.
+fn is_bare(lines: &Lines, pairs: &Pairs, number: u64) -> bool
+    requires { AreTold (reverse lines.now) pairs.now }
+    ensures { result ≡ is_bare (reverse lines.now) number }
+{
+    if pairs.next(lines, number).is_some() {
+        return false;
+    }
+    pairs.init(lines, number).is_none()
+}
+
 /// What a line is in a chain.
 #[tactic(auto, using(crate::proofs::Found::link_steps))]
 pub(crate) fn link_of(lines: &Lines, pairs: &Pairs, number: u64) -> Link
@@ -80,7 +91,7 @@ pub(crate) fn link_of(lines: &Lines, pairs: &Pairs, number: u64) -> Link
     };
     match &line.shape {
         Shape::State(_) => {
-            if pairs.is_bare(lines, number) {
+            if is_bare(lines, pairs, number) {
                 Link::Base
             } else {
                 Link::Broken

@@ -17,7 +17,7 @@ use Rattle.circuit_rules.specs.Whole.{is_starved, is_unfed, unfed_among, unfed}
 use Rattle.circuit_rules.specs.Entries.{fresh, target, entry_at}
 use Rattle.circuit_rules.specs.Fed.{has, holds, hungry, lacking}
 use Rattle.circuit_rules.proofs.Found.{none-above, rising, unmarked}
-use Rattle.circuit_rules.proofs.Earlier.{earlier-next, earlier-more, earlier-all, slice_get-some}
+use Rattle.circuit_rules.proofs.Earlier.{earlier-next, earlier-more, earlier-all, slice_get-some, ruled-earlier}
 
 -- the numbers that are kept tell which nodes of some lines hang on a state without a `next`
 pub record Tells (all before : List Line) (numbers : BTreeSet ℕ) : Type 0 where
@@ -98,24 +98,11 @@ told-more all before l old new h r t e f = record { each = each } where
     | inr p ↦ f q ∙ rw p.0 (apart h (has old q) ∙ t.each q)
   ]
 
--- what holds of all lines holds of the earlier ones
-pub ruled-down : (lines : List Line) (i j : ℕ) → i ≤ j → j ≤ length lines → AreRuled (earlier lines j) → AreRuled (earlier lines i)
-ruled-down lines i zero le within r = let e : i ≡ zero = omega arith in subst (λ z. AreRuled (earlier lines z)) (sym e) r
-ruled-down lines i (suc j) le within r =
-    let last = slice_get-some lines j (omega arith) in
-    let more : earlier lines (suc j) ≡ last.0 ∷ earlier lines j = earlier-next lines j last.0 last.1 in
-    let r' : AreRuled (last.0 ∷ earlier lines j) = subst AreRuled more r in
-    elim (cases_lt i (suc j)) [
-      | inl lt ↦ let below : i ≤ j = omega arith in ruled-down lines i j below (omega arith) r'.1
-      | inr ge ↦ let e : i ≡ suc j = omega arith in subst (λ z. AreRuled (earlier lines z)) (sym e) r
-    ]
-
 -- the numbers tell of the lines up to the next one
 pub told-next : (lines : List Line) (k : ℕ) (l : Line) (old new : BTreeSet ℕ) (h : Bool) → AreRuled (reverse lines) → slice_get lines k ≡ Some l → k < length lines → Tells (reverse lines) (earlier lines k) old → h ≡ hungry (holds old) (is_none (next_of (reverse lines) l.number)) l.shape → ((q : ℕ) → has new q ≡ ((h && l.number == q) || has old q)) → Tells (reverse lines) (earlier lines (k + 1)) new
 told-next lines k l old new h r is within t e f =
     let more : earlier lines (k + 1) ≡ l ∷ earlier lines k = earlier-more lines k l is in
-    let all : AreRuled (earlier lines (length lines)) = subst AreRuled (sym (earlier-all lines)) r in
-    let ruled : AreRuled (earlier lines (k + 1)) = ruled-down lines (k + 1) (length lines) (omega arith) (omega arith) all in
+    let ruled : AreRuled (earlier lines (k + 1)) = ruled-earlier lines (k + 1) r in
     subst (λ z. Tells (reverse lines) z new) (sym more) (told-more (reverse lines) (earlier lines k) l old new h (subst AreRuled more ruled) t e f)
 
 -- a line that doesn't break the rule

@@ -1,5 +1,5 @@
 -- What is kept of lines, against what numbers name among them.
-use Rattle.std.proofs.Common.{nat_le, ◌≤◌, ◌≡◌, ℕ, ◌<◌, ◌==◌, ◌||◌, ℤ, pos, negsuc, List, [], ◌∷◌, Option, Some, None, Bool, true, false, not, is_some, length, refl, sym, ◌∙◌, ap, subst, arith, inl, inr, if◌then◌else◌}
+use Rattle.std.proofs.Common.{◌≤◌, ◌≡◌, ℕ, ◌<◌, ◌==◌, ◌||◌, ℤ, pos, negsuc, List, [], ◌∷◌, Option, Some, None, Bool, true, false, not, is_some, is_none, length, refl, sym, ◌∙◌, ap, subst, arith, inl, inr, if◌then◌else◌}
 use Rattle.std.proofs.lemmas.Bool.Decides.{eqb_tells}
 use Rattle.circuit_lines.specs.declared.line.Shape.{Shape}
 use Rattle.circuit_lines.specs.declared.line.Shape.TheVariants as shape
@@ -9,13 +9,13 @@ use Rattle.circuit_lines.specs.Nodes.{named_or, next_of, init_of}
 use Rattle.circuit_rules.specs.declared.entry.Entry.{Entry}
 use Rattle.circuit_rules.specs.declared.sort.SortOf.{SortOf}
 use Rattle.circuit_rules.specs.declared.sort.SortOf.TheVariants.{Words, Arrays}
-use Rattle.circuit_rules.specs.Named.{arrays_of, width_of, sort_line, sort_of, sort_at, node_sort, is_state, is_state_shape, place_of}
+use Rattle.circuit_rules.specs.Named.{width_of, sort_line, sort_of, sort_at, node_sort, is_state, is_state_shape, place_of}
 use Rattle.circuit_rules.specs.Reached.{leaves, leaves_of, reached}
-use Rattle.circuit_rules.specs.Rules.{broken, breaks_operand, breaks_sort, last_number, is_no_state, AreRuled}
+use Rattle.circuit_rules.specs.Rules.{broken, breaks_operand, last_number, is_no_state, AreRuled}
 use Rattle.circuit_rules.specs.Entries.{fresh, marked, target, is_target, entry_at, entry_sort, entry_node, entry_state, entry_place, entry_reach, entry_init, entry_next, reach_of}
 use Rattle.circuit_rules.proofs.Obeyed.{obeys}
-use borrow.Author.Tests.{leb-false}
-use Rattle.std.proofs.lemmas.Bool.{and_parts, leb-true, not-false, or_parts, or_from, ne_eqb, eqb-true, false_from_ne_true, both_ways}
+use Rattle.circuit_rules.proofs.Narrow.{IsNarrow, sorts-narrow}
+use Rattle.std.proofs.lemmas.Bool.{cases_lt, leb-false, or_parts, or_from, ne_eqb, eqb-true, false_from_ne_true, both_ways}
 
 -- what a look-up says of an entry that marks don't change
 found : {A B : Type 0} (f : Option Entry → A) (g : B → A) → ((i x : Option ℕ) (n : ℕ) (o : Option Entry) → f (marked i x n o) ≡ f o) → (i x : Option ℕ) (n : ℕ) (b : Bool) (e : Entry) (o : Option Entry) (u v : B) → g u ≡ f (Some e) → g v ≡ f o → g (if b then u else v) ≡ f (marked i x n (if b then Some e else o))
@@ -120,6 +120,23 @@ none-above (l ∷ before) n r h =
     let past : entry_at before n ≡ None = none-above before n r.1 (omega arith) in
     rw (other, past) refl
 
+-- a node's number is at most the last one
+pub node-low : (before : List Line) (n : ℕ) → AreRuled before → is_none (node_sort before n) ≡ false → n ≤ last_number before
+node-low before n r h = elim (cases_lt (last_number before) n) [
+  | inl lt ↦
+      let none : node_sort before n ≡ None = node-found before n ∙ ap entry_node (none-above before n r lt) in
+      let bad : is_none {T = SortOf} None ≡ false = subst (λ (s : Option SortOf). is_none s ≡ false) none h in
+      cc
+  | inr le ↦ le
+]
+
+-- so it is that of no line which follows
+pub node-apart : (before : List Line) (l : Line) (n : ℕ) → AreRuled (l ∷ before) → is_none (node_sort before n) ≡ false → l.number == n ≡ false
+node-apart before l n r h = ne_eqb l.number n (λ e.
+    let rise = rising before l r.0 in
+    let low = node-low before n r.1 h in
+    absurd (omega arith))
+
 pub unmarked : (i x : Option ℕ) (n : ℕ) (o : Option Entry) → marked i x n o ≡ None → o ≡ None
 unmarked i x n None e = refl
 unmarked i x n (Some o) e = cc
@@ -179,24 +196,11 @@ next-found before n r = flagged next_pair entry_next next-states (record { none 
 
 pub ruleset marks_found = (init-found, next-found)
 
-declared-narrow : (before : List Line) (s : Shape) → breaks_sort before s ≡ false → width_of (sort_line (sort_of before) s) ≤ 128
-declared-narrow before (shape.Bitvec w) h = leb-true w 128 (and_parts (nat_le 1 w) (nat_le w 128) (not-false _ h)).1
-declared-narrow before (shape.Array i e) h = arrays (sort_of before i) (sort_of before e) where
-  arrays : (a b : Option SortOf) → width_of (arrays_of a b) ≤ 128
-  arrays (Some (Words w)) (Some (Words v)) = omega arith
-  arrays None b = omega arith
-  arrays (Some (Arrays i e)) b = omega arith
-  arrays (Some (Words w)) None = omega arith
-  arrays (Some (Words w)) (Some (Arrays i e)) = omega arith
-declared-narrow before _ h = omega arith
-
-sort-narrow : (before : List Line) (n : ℕ) → AreRuled before → width_of (sort_of before n) ≤ 128
-sort-narrow [] n r = omega arith
-sort-narrow (l ∷ before) n r = elim (eqb_tells l.number n) [
-  | inl q ↦ rw q.0 (declared-narrow before l.shape (obeys before l r.0).sort)
-  | inr q ↦ rw q.0 (sort-narrow before n r.1)
-]
+width-narrow : (s : Option SortOf) → IsNarrow s → width_of s ≤ 128
+width-narrow None h = omega arith
+width-narrow (Some (Words w)) h = h
+width-narrow (Some (Arrays i e)) h = omega arith
 
 -- no sort has words of more than 128 bits
 pub narrow_sorts : (before : List Line) (n : ℕ) → AreRuled before → width_of (entry_sort (entry_at before n)) ≤ 128
-narrow_sorts before n r = rw (sym (sort-found before n)) (sort-narrow before n r)
+narrow_sorts before n r = rw (sym (sort-found before n)) (width-narrow (sort_of before n) (sorts-narrow before r n))

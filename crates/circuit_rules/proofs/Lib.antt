@@ -8,3 +8,6 @@ pub mod Earlier
 pub mod Feeding
 pub mod Shaped
 pub mod Limits
+pub mod Narrow
+pub mod Small
+pub mod Told

@@ -8,3 +8,4 @@ pub mod Entries
 pub mod Fed
 pub mod Examples
 pub mod Literals
+pub mod Told

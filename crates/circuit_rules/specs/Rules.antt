@@ -3,7 +3,7 @@
 -- Lines stand from the last to the first.
 -- Standard: BTOR2 (Niemetz, Preiner, Wolf and Biere, CAV 2018). The limits and the order of the
 -- rules are the project's own.
-use Rattle.std.specs.Prelude.{ℕ, ◌+◌, ◌^◌, ◌==◌, ◌&&◌, ◌||◌, nat_lt, nat_le, ◌≡◌, ℤ, pos, negsuc, List, [], ◌∷◌, Bool, true, false, not, Option, Some, None, is_none, is_some, length}
+use Rattle.std.specs.Prelude.{ℕ, ◌+◌, ◌^◌, ◌==◌, ◌&&◌, ◌||◌, nat_lt, nat_le, ◌≡◌, ◌≤◌, ℤ, pos, negsuc, List, [], ◌∷◌, Bool, true, false, not, Option, Some, None, is_none, is_some, length}
 use Rattle.std.specs.List.{list_any}
 use Rattle.knox_words.specs.declared.op.Op2.{Op2}
 use Rattle.knox_words.specs.declared.op.Op2.TheVariants.{Eq, Neq}
@@ -68,6 +68,11 @@ is_width_up_to most w = nat_le 1 w && nat_le w most
 abbrev pub is_index : Option SortOf → Bool
 is_index (Some (Words w)) = is_width_up_to 12 w
 is_index _ = false
+
+-- indices of at most 12 bits, where there are any
+abbrev pub IsSmall : Option ℕ → Type 0
+IsSmall None = Unit {0}
+IsSmall (Some i) = i ≤ 12
 
 -- a state and a value of a sort
 abbrev pub is_pair : List Line → ℕ → ℤ → ℤ → Bool

@@ -1,6 +1,6 @@
 //! The rules that the lines of a BTOR2 circuit obey, each after the lines before it. Start at
 //! `Lines`; `specs/Rules.antt` defines the rules and their order, `specs/Whole.antt` the rule of a
-//! whole circuit.
+//! whole circuit. `Pairs` has what `next` and `init` lines say of each state.
 #![tactic(auto)]
 
 mod constants;
@@ -10,10 +10,9 @@ mod laws;
 mod lines;
 mod literals;
 mod operators;
+mod pairs;
 mod rules;
 mod sort;
-#[cfg(test)]
-mod tests;
 mod whole;
 
 pub use examples::{
@@ -23,4 +22,5 @@ pub use examples::{
 pub use laws::{nodes_have_widths, sorts_have_widths};
 pub use lines::Lines;
 pub use literals::literal;
+pub use pairs::{Pairs, read_pairs};
 pub use sort::SortOf;

@@ -1,5 +1,5 @@
 //! Lines that obey the rules, with what was resolved of each.
-ghost use Rattle.std.specs.Prelude.{ℕ, ℤ, ◌==◌, if◌then◌else◌, ◌≡◌, ◌≢◌, ◌++◌, [], ◌∷◌, reverse, length, max, is_some, OnOk, OnErr, OnSome, IfSome, IfNone, ◌+◌, ◌<◌, ◌≤◌, IfOk, IfErr, Some, None};
+ghost use Rattle.std.specs.Prelude.{ℕ, ℤ, ◌==◌, if◌then◌else◌, ◌≡◌, ◌≢◌, ◌++◌, [], ◌∷◌, reverse, length, slice_get, max, is_some, OnOk, OnErr, OnSome, IfSome, IfNone, ◌+◌, ◌<◌, ◌≤◌, IfOk, IfErr, Some, None};
 ghost use Rattle.std.specs.BTreeMap.{get};
 ghost use Rattle.std.specs.Option.{option_map};
 ghost use Rattle.std.specs.Ordering.{nat_cmp};
@@ -62,34 +62,19 @@ fn record_entry(
     Ok(())
 }
 
-/// The number of the state that an `init` line names.
-fn init_target(shape: &Shape) -> Option<u64>
-    ensures { result ≡ target (init_pair shape.now) }
+/// The number of the state that a pair names, where it isn't a complement.
+fn target(pair: Option<(i64, i64)>) -> Option<u64>
+    ensures { result ≡ target pair }
 {
-    match shape {
-        Shape::Init(_, state, _) => target(*state),
-        _ => None,
-    }
-}
-
-/// The number of the state that a `next` line names.
-fn next_target(shape: &Shape) -> Option<u64>
-    ensures { result ≡ target (next_pair shape.now) }
-{
-    match shape {
-        Shape::Next(_, state, _) => target(*state),
-        _ => None,
-    }
-}
-
-/// An operand's number, where it isn't a complement.
-fn target(state: i64) -> Option<u64>
-    ensures { (v : ℤ) → result ≡ target (Some (state, v)) }
-{
-    if state < 0 {
-        None
-    } else {
-        Some(state.unsigned_abs())
+    match pair {
+        None => None,
+        Some((state, _)) => {
+            if state < 0 {
+                None
+            } else {
+                Some(state.unsigned_abs())
+            }
+        }
     }
 }
 
@@ -173,6 +158,14 @@ impl Lines {
         self.lines.len()
     }
 
+    /// The line at a place, from 0 on.
+    pub fn line_at(&self, at: usize) -> &Line
+        requires { at < length self.now }
+        ensures { slice_get self.now at ≡ Some result.now }
+    {
+        &self.as_slice()[at]
+    }
+
     /// Adds a line that breaks no rule after the lines so far. A refused line leaves them as they
     /// were.
     #[tactic(auto, using(crate::proofs::Adding::adding_steps))]
@@ -190,8 +183,8 @@ impl Lines {
         };
         let entry = fresh(self, &line);
         let number = line.number;
-        let init = init_target(&line.shape);
-        let next = next_target(&line.shape);
+        let init = target(line.shape.init_pair());
+        let next = target(line.shape.next_pair());
         self.lines.push(line)?;
         match record_entry(&mut self.entries, u64::from(number), entry, init, next) {
             Ok(()) => {

@@ -1,5 +1,5 @@
 //! The rule of a whole circuit, tested once over all lines.
-ghost use Rattle.std.specs.Prelude.{◌≡◌, false, ◌<◌, ◌==◌, ◌&&◌, ◌||◌, ℕ, Some, length, slice_get, reverse, is_some, is_none, OnOk, IfOk};
+ghost use Rattle.std.specs.Prelude.{◌≡◌, false, ◌==◌, ◌&&◌, ◌||◌, ℕ, reverse, is_some, is_none, OnOk, IfOk};
 ghost use Rattle.std.specs.Option.{option_map};
 ghost use Rattle.circuit_lines.specs.Nodes.{next_of, init_of};
 ghost use Rattle.circuit_rules.specs.Rules.{AreRuled};
@@ -94,21 +94,15 @@ fn none(alloc: Global) -> BTreeSet<u64>
     BTreeSet::new(alloc)
 }
 
-fn line_at(lines: &[Line], at: usize) -> &Line
-    requires { at < length lines.now }
-    ensures { slice_get lines.now at ≡ Some result.now }
-{
-    &lines[at]
-}
-
 /// The text line of the first line that breaks the rule of a whole circuit.
 #[tactic(auto, using(crate::proofs::Feeding::whole_steps))]
 pub fn unfed(alloc: Global, lines: &Lines) -> Result<Option<u32>, AllocError>
     ensures { IfOk result (λ found. found ≡ option_map (λ l. l.at) (unfed (reverse lines.now))) }
 {
+    let _all = lines.as_slice();
     let mut numbers = none(alloc);
     for at in 0..lines.len() {
-        let line = line_at(lines.as_slice(), at);
+        let line = lines.line_at(at);
         if is_lacking(lines, &numbers, line) {
             return Ok(Some(line.at));
         }

@@ -1,5 +1,5 @@
 //! A device of eight slots that runs a program of 256 steps out of its ROM.
-use crate::running::{factory, gives, power, read, tick};
+use crate::running::{factory, gives, power, read, rom_word, tick};
 use knox_circuit::{Circuit, State};
 use knox_words::{Word, word_or};
 use std::alloc::Global;
@@ -149,15 +149,6 @@ fn command_gives(
     let found = gives(alloc, circuit, state, wires, 1, &[1, ok])?;
     tick(alloc, circuit, state, wires)?;
     Ok(found)
-}
-
-/// The ROM word at an index, where the index names a device word.
-fn rom_word(circuit: &Circuit, at: u32) -> Option<Word> {
-    if (at as usize) < circuit.word_count() {
-        circuit.rom(at)
-    } else {
-        None
-    }
 }
 
 /// What is expected of it: the program stands before the other cells, and none of these is a ROM.

@@ -1,6 +1,6 @@
 //! A ROM that is a chain of writes over a bare state, with a gap.
-use crate::running::{are, factory, gives, power, read, tick};
-use knox_circuit::Circuit;
+use crate::running::{are, factory, gives, power, read, rom_word, tick, words};
+use knox_circuit::State;
 use knox_words::{Word, word_or};
 use std::test::Fail;
 
@@ -55,15 +55,6 @@ const WITH_FIRST: [u128; 16] = [0, 1, 2, 3, 4, 5, 6, 8, 8, 9, 10, 11, 12, 13, 14
 
 const WITH_SECOND: [u128; 16] = [0, 1, 2, 3, 4, 5, 6, 10, 8, 9, 10, 11, 12, 13, 14, 15];
 
-/// The ROM word at an index, where the index names a device word.
-fn rom_word(circuit: &Circuit, at: u32) -> Option<Word> {
-    if (at as usize) < circuit.word_count() {
-        circuit.rom(at)
-    } else {
-        None
-    }
-}
-
 /// What is expected of it.
 fn written(at: u32) -> Option<Word> {
     if at == 7 {
@@ -107,6 +98,124 @@ fn each_index_reads_its_word(rt: HostRuntime) -> Result<(), Fail> {
     let state = factory(alloc, &circuit, 4, &FIRST)?;
     for (at, word) in WITH_FIRST.iter().enumerate() {
         assert!(rt; gives(alloc, &circuit, &state, &[(4, at as u128)], 4, &[*word])?);
+    }
+    Ok(())
+}
+
+/// A ROM of four words: 10 is written at index 0, 15 at 3, and then 15 at 0.
+const TWICE: &[u8] = b"1 sort bitvec 2
+2 sort bitvec 4
+3 sort array 1 2
+4 state 3
+5 zero 1
+6 ones 1
+7 const 2 1010
+8 ones 2
+9 write 3 4 5 7
+10 write 3 9 6 8
+11 write 3 10 5 8
+12 state 3 rom
+13 init 3 12 11
+14 next 3 12 12";
+
+#[test]
+fn the_word_written_last_is_known(rt: HostRuntime) -> Result<(), Fail> {
+    let alloc = rt.alloc();
+    let circuit = read(alloc, TWICE)?;
+    let most = Some(word_or(4, 15));
+    for (at, word) in [most, None, None, most].iter().enumerate() {
+        assert_eq!(rt; rom_word(&circuit, at as u32), *word);
+    }
+    let held = State {
+        words: words(alloc, 4, &[15, 10, 10, 15])?,
+    };
+    assert!(rt; circuit.fits_state(&held));
+    let other = State {
+        words: words(alloc, 4, &[10, 10, 10, 15])?,
+    };
+    assert!(rt; !circuit.fits_state(&other));
+    Ok(())
+}
+
+/// Array cells of four words that begin with different nodes of one chain and with branches of
+/// it. The chain is 14 to 17; 18 and 19 branch off at 15, and 20 at 14; 22 writes a word that is
+/// no constant line, so 23 and 24 over it are no chains.
+const BRANCHES: &[u8] = b"1 sort bitvec 2
+2 sort bitvec 4
+3 sort array 1 2
+4 state 3
+5 zero 1
+6 one 1
+7 constd 1 2
+8 ones 1
+9 constd 2 1
+10 constd 2 2
+11 constd 2 3
+12 constd 2 4
+13 constd 2 5
+14 write 3 4 5 9
+15 write 3 14 6 10
+16 write 3 15 5 11
+17 write 3 16 8 12
+18 write 3 15 7 13
+19 write 3 18 6 9
+20 write 3 14 8 13
+21 not 2 9
+22 write 3 16 6 21
+23 write 3 22 7 9
+24 write 3 22 5 9
+31 state 3 a
+32 init 3 31 17
+33 next 3 31 31
+34 state 3 b
+35 init 3 34 15
+36 next 3 34 34
+37 state 3 c
+38 init 3 37 19
+39 next 3 37 37
+40 state 3 d
+41 init 3 40 20
+42 next 3 40 40
+43 state 3 e
+44 init 3 43 17
+45 next 3 43 43
+46 state 3 f
+47 init 3 46 18
+48 next 3 46 46
+49 state 3 g
+50 init 3 49 23
+51 next 3 49 49
+52 state 3 h
+53 init 3 52 24
+54 next 3 52 52
+55 state 3 i
+56 init 3 55 14
+57 next 3 55 55
+58 state 3 j
+59 init 3 58 4
+60 next 3 58 58";
+
+/// The ROM words of each cell, and 0 where there is none.
+const BRANCHED: [u128; 40] = [
+    3, 2, 0, 4, 1, 2, 0, 0, 1, 1, 5, 0, 1, 0, 0, 5, 3, 2, 0, 4, 1, 2, 5, 0, 0, 0, 0, 0, 0, 0, 0, 0,
+    1, 0, 0, 0, 0, 0, 0, 0,
+];
+
+/// A word that is expected, where it isn't 0.
+fn branched(value: u128) -> Option<Word> {
+    if value == 0 {
+        None
+    } else {
+        Some(word_or(4, value))
+    }
+}
+
+#[test]
+fn cells_share_a_chain(rt: HostRuntime) -> Result<(), Fail> {
+    let circuit = read(rt.alloc(), BRANCHES)?;
+    assert_eq!(rt; circuit.roms().len(), 40);
+    for (at, value) in BRANCHED.iter().enumerate() {
+        assert_eq!(rt; rom_word(&circuit, at as u32), branched(*value));
     }
     Ok(())
 }

@@ -1,7 +1,7 @@
 //! Circuits are read from texts and run with words that are given as values.
 use btor_read::read_circuit;
 use knox_circuit::{Circuit, Inputs, Noise, State};
-use knox_words::{Words, word_at, word_or};
+use knox_words::{Word, Words, word_at, word_or};
 use std::alloc::{AllocError, Global};
 use std::test::Fail;
 
@@ -131,4 +131,13 @@ pub(crate) fn gives(
     let mut out = vec![in alloc; word_or(1, 0); circuit.outputs_list().len()]?;
     circuit.outputs(state, &inputs, &mut room, out.as_mut_slice());
     Ok(are(&Words::from_vec(out), width, values))
+}
+
+/// The ROM word at an index, where the index names a device word.
+pub(crate) fn rom_word(circuit: &Circuit, at: u32) -> Option<Word> {
+    if (at as usize) < circuit.word_count() {
+        circuit.rom(at)
+    } else {
+        None
+    }
 }

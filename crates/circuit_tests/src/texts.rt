@@ -7,7 +7,7 @@ use std::alloc::Global;
 use std::test::Fail;
 
 /// Texts in unusual spellings, and how many lines each has.
-const UNUSUAL: [(&[u8], usize); 14] = [
+const UNUSUAL: [(&[u8], usize); 20] = [
     (b"", 0),
     (b"; a comment alone", 0),
     (b"\n\n  \t\n", 0),
@@ -25,6 +25,26 @@ const UNUSUAL: [(&[u8], usize); 14] = [
     ),
     (b"1 sort bitvec 1\n2 sort bitvec 1\n3 zero 1\n4 not 2 3", 4),
     (b"1 sort bitvec 1\n2 zero 1\n3 state 1\n4 next 1 3 2", 4),
+    // Sorts are compared by what they are, a state may be bare, and its word the first value of others.
+    (b"1 sort bitvec 2\n2 state 1", 2),
+    (
+        b"1 sort bitvec 1\n2 state 1\n3 state 1\n4 init 1 3 -2\n5 next 1 3 3",
+        5,
+    ),
+    (
+        b"1 sort bitvec 1\n2 sort array 1 1\n3 one 1\n4 state 2\n5 init 2 4 3\n6 next 2 4 4",
+        6,
+    ),
+    (b"1 sort bitvec 1\n2 state 1\n3 fair 2\n4 justice 2 2 -2", 4),
+    (
+        b"1 sort bitvec 1\n2 sort bitvec 4\n3 constd 2 -8\n4 constd 1 -0\n5 uext 1 4 0",
+        5,
+    ),
+    // 65,536 words of arrays.
+    (
+        b"1 sort bitvec 12\n2 sort array 1 1\n3 state 2\n4 state 2\n5 state 2\n6 state 2\n7 state 2\n8 state 2\n9 state 2\n10 state 2\n11 state 2\n12 state 2\n13 state 2\n14 state 2\n15 state 2\n16 state 2\n17 state 2\n18 state 2\n",
+        18,
+    ),
 ];
 
 /// A comment, an empty line, a tab and a carriage return among nine lines.

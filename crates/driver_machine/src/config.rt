@@ -20,7 +20,7 @@ use crate::position::Position;
 use crate::reply::{Moved, Reply};
 use crate::scene::Scene;
 use knox_circuit::{Circuit, Inputs, State};
-use knox_lang::{Body, DriverProgram, Expr, Fun, OpHead, Stmt};
+use knox_lang::{Body, DriverParts, DriverProgram, Expr, Fun, OpHead, Stmt};
 use knox_words::{Word, Words};
 use sqlite_items::Items;
 use std::alloc::{AllocError, Global};
@@ -54,6 +54,28 @@ fn first_locals(alloc: Global, body: Option<&Body>) -> Result<Words, AllocError>
         Some(body) => zero_locals(alloc, body.locals.as_slice()),
         None => Ok(Words::new(alloc)),
     }
+}
+
+/// The arguments, the locals and the idle inputs that a body starts with, and no cells yet.
+fn first_scene(
+    alloc: Global,
+    parts: &DriverParts,
+    body: Option<&Body>,
+    args: &[Word],
+) -> Result<Scene, AllocError>
+    ensures { IfOk result (λ sc. sc ≡ record { args = args.now; locals = locals_of (option_copied body.entry); state = record { words = [] }; inputs = record { words = parts.now.idle } }) }
+{
+    let locals = first_locals(alloc, body)?;
+    let idle = parts.idle.copy(alloc)?;
+    let args = Words::from_vec(Vec::from_slice(alloc, args)?);
+    Ok(Scene {
+        args,
+        locals,
+        state: State {
+            words: Words::new(alloc),
+        },
+        inputs: Inputs { words: idle },
+    })
 }
 
 /// Whether words have the widths of the things named, one for one.
@@ -125,9 +147,8 @@ impl DriverConfig {
         let _circuit = c;
         let parts = d.parts();
         let body = sqlite_items::at(parts.bodies.as_slice(), op as usize);
-        let locals = first_locals(alloc, body)?;
-        let idle = parts.idle.copy(alloc)?;
-        let args = Words::from_vec(Vec::from_slice(alloc, args)?);
+        let mut scene = first_scene(alloc, parts, body, args)?;
+        scene.state = s;
         let reply = match body {
             Some(_) => None,
             None => Some(Reply::Stuck),
@@ -135,12 +156,7 @@ impl DriverConfig {
         Ok(DriverConfig {
             op,
             position: Position::start(alloc),
-            scene: Scene {
-                args,
-                locals,
-                state: s,
-                inputs: Inputs { words: idle },
-            },
+            scene,
             reply,
         })
     }

@@ -11,18 +11,27 @@ use Rattle.knox_lang.specs.Eval.{called}
 use Rattle.knox_lang.specs.Exec.{does_all}
 use Rattle.emu_machine.specs.Emulator.{body_words, power_spaces, emulator_after_power, after_tick, Answerer, answering}
 
--- statements of the body, over what the emulator sees, are the tick
-pub done-after_tick : {st : Spaces × Answerer} (s : SpecParts) (p : EmuParts) {q : EmuParts} {funs : List Fun} {stmts : List Stmt} {locals : List (List ℕ × ℕ)} {sp : Spaces} (e f emu ins fields : List Bits) {bound : List Bits} →
-    q ≡ p → funs ≡ q.funs → stmts ≡ q.tick.stmts → locals ≡ q.tick.locals → e ≡ emu → f ≡ fields → bound ≡ [] →
-    sp ≡ body_words e ins (start_of locals) →
+-- what is done by the statements of the body of a tick, with a specification that answers
+abbrev pub does_tick : SpecParts → EmuParts → Spaces → List Bits → Spaces × Answerer
+does_tick s p sp fields = does_all Answerer (called p.funs) answering p.tick.stmts (sp, record { spec = s; fields = fields }) []
+
+pub done-tick : {st : Spaces × Answerer} (s : SpecParts) (p : EmuParts) {q : EmuParts} {funs : List Fun} {stmts : List Stmt} (sp : Spaces) (f fields : List Bits) {bound : List Bits} →
+    q ≡ p → funs ≡ q.funs → stmts ≡ q.tick.stmts → f ≡ fields → bound ≡ [] →
     st ≡ does_all Answerer (called funs) answering stmts (sp, record { spec = s; fields = f }) bound →
-    st ≡ after_tick s p fields emu ins
-done-after_tick s p e f emu ins fields parts funs stmts locals same-emu same-fields bound seen done =
+    st ≡ does_tick s p sp fields
+done-tick s p sp f fields parts funs stmts same-fields bound done =
     let funs' = funs ∙ ap (λ q. q.funs) parts in
     let stmts' = stmts ∙ ap (λ q. q.tick.stmts) parts in
+    done ∙ (λ i. does_all Answerer (called (funs' i)) answering (stmts' i) (sp, record { spec = s; fields = same-fields i }) (bound i))
+
+-- over what the emulator sees, they are the tick
+pub tick-seen : (s : SpecParts) (p : EmuParts) {q : EmuParts} {locals : List (List ℕ × ℕ)} {sp : Spaces} {f : List Bits} (e emu ins fields : List Bits) →
+    q ≡ p → locals ≡ q.tick.locals → e ≡ emu → sp ≡ body_words e ins (start_of locals) → f ≡ fields →
+    does_tick s p sp f ≡ after_tick s p fields emu ins
+tick-seen s p e emu ins fields parts locals same-emu seen same-fields =
     let locals' = locals ∙ ap (λ q. q.tick.locals) parts in
     let seen' = seen ∙ (λ i. body_words (same-emu i) ins (start_of (locals' i))) in
-    done ∙ (λ i. does_all Answerer (called (funs' i)) answering (stmts' i) (seen' i, record { spec = s; fields = same-fields i }) (bound i))
+    λ i. does_tick s p (seen' i) (same-fields i)
 
 -- statements of the body `power`, over what it sees, are the power-on
 pub done-after_power : {st : Spaces × Unit {0}} (p : EmuParts) {q : EmuParts} {funs : List Fun} {stmts : List Stmt} {sp : Spaces} {u : Unit {0}} (noise : List Bits) {bound : List Bits} →

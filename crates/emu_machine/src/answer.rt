@@ -2,7 +2,7 @@
 ghost use Rattle.std.specs.Prelude.{◌≡◌};
 
 use knox_lang::{Queries, SpecProgram, SpecState};
-use knox_words::Word;
+use knox_words::{Word, Words};
 use std::alloc::{AllocError, Global};
 use std::marker::Model;
 
@@ -11,6 +11,17 @@ use std::marker::Model;
 pub(crate) struct Answers<'a> {
     pub(crate) program: &'a SpecProgram,
     pub(crate) state: SpecState,
+}
+
+impl<'a> Answers<'a> {
+    /// The fields that the last query left.
+    pub(crate) fn into_fields(self) -> Words
+        ensures { result ≡ self.entry.fields }
+    {
+        let Answers { program: _, state } = self;
+        let SpecState { words } = state;
+        words
+    }
 }
 
 impl<'a> Model for Answers<'a> {

@@ -3,7 +3,8 @@ ghost use Rattle.std.specs.Prelude.{◌≡◌, [], ◌∷◌, ◌++◌, map, IfO
 ghost use Rattle.knox_lang.specs.Operation.{start_of};
 ghost use Rattle.knox_lang.specs.Scope.{scope};
 ghost use Rattle.knox_lang.specs.Eval.{eval, values, called};
-ghost use Rattle.emu_machine.specs.Emulator.{body_words, power_spaces, emulator_outputs, emulator_after_power, emulator_after_tick, fields_after_tick};
+ghost use Rattle.emu_machine.specs.Emulator.{body_words, power_spaces, emulator_outputs, emulator_after_power, emulator_after_tick, fields_after_tick, Answerer, answering};
+ghost use Rattle.knox_lang.specs.Exec.{does_all};
 
 use crate::answer::Answers;
 use knox_lang::{EmuProgram, Expr, Fun, NoQueries, Spaces, SpecProgram, SpecState};
@@ -76,15 +77,16 @@ impl EmuRoom {
         ins: &[Word],
         locals: &[(Items<u8>, u8)],
     ) -> Result<Spaces, AllocError>
-        ensures { IfOk result (λ sp. sp ≡ body_words emu.now ins.now (start_of locals.now)) }
+        ensures seen { IfOk result (λ sp. sp ≡ body_words emu.now ins.now (start_of locals.now)) }
+        ensures kept { self.new.fields ≡ self.old.fields }
     {
+        self.own.copy_from(emu)?;
+        self.input.copy_from(ins)?;
+        start_into(locals, &mut self.local)?;
         let mut spaces = Spaces::new(alloc);
         mem::swap(&mut spaces.own, &mut self.own);
         mem::swap(&mut spaces.input, &mut self.input);
         mem::swap(&mut spaces.local, &mut self.local);
-        spaces.own.copy_from(emu)?;
-        spaces.input.copy_from(ins)?;
-        start_into(locals, &mut spaces.local)?;
         Ok(spaces)
     }
 
@@ -98,13 +100,13 @@ impl EmuRoom {
         ensures { IfOk result (λ sp. sp ≡ power_spaces p.now noise.now) }
     {
         let parts = p.parts();
+        self.own.copy_from(parts.init.as_slice())?;
+        self.noise.copy_from(noise)?;
+        start_into(parts.power.locals.as_slice(), &mut self.local)?;
         let mut spaces = Spaces::new(alloc);
         mem::swap(&mut spaces.own, &mut self.own);
         mem::swap(&mut spaces.local, &mut self.local);
         mem::swap(&mut spaces.noise, &mut self.noise);
-        spaces.own.copy_from(parts.init.as_slice())?;
-        spaces.noise.copy_from(noise)?;
-        start_into(parts.power.locals.as_slice(), &mut spaces.local)?;
         Ok(spaces)
     }
 
@@ -171,6 +173,37 @@ impl EmuRoom {
         Ok(())
     }
 
+    /// The body of a tick over these words. The specification answers it, with the fields in this
+    /// room.
+    fn answered(
+        &mut self,
+        alloc: Global,
+        s: &SpecProgram,
+        p: &EmuProgram,
+        spaces: &mut Spaces,
+    ) -> Result<(), AllocError>
+        ensures spaces { OnOk result (spaces.new ≡ (does_all Answerer (called p.now.funs) answering p.now.tick.stmts (spaces.old, record { spec = s.now; fields = self.old.fields }) []).0) }
+        ensures fields { OnOk result (self.new.fields ≡ (does_all Answerer (called p.now.funs) answering p.now.tick.stmts (spaces.old, record { spec = s.now; fields = self.old.fields }) []).1.fields) }
+    {
+        let parts = p.parts();
+        let words = mem::replace(&mut self.fields, Words::new(alloc));
+        let mut asked = Answers {
+            program: s,
+            state: SpecState { words },
+        };
+        self.bound.clear();
+        knox_lang::exec_in(
+            alloc,
+            parts.tick.stmts.as_slice(),
+            parts.funs.as_slice(),
+            spaces,
+            &mut self.bound,
+            &mut asked,
+        )?;
+        self.fields = asked.into_fields();
+        Ok(())
+    }
+
     /// A tick: the emulator's words and the specification's fields after it. Want of memory leaves
     /// both as they were.
     pub fn tick(
@@ -186,28 +219,11 @@ impl EmuRoom {
         ensures fields { OnOk result (fields.new ≡ fields_after_tick s.now p.now fields.old emu.old ins.now) }
         ensures err { OnErr result ((emu.new ≡ emu.old) × (fields.new ≡ fields.old)) }
     {
-        let parts = p.parts();
-        let mut spaces = self.spaces(alloc, emu.as_slice(), ins, parts.tick.locals.as_slice())?;
-        let mut words = Words::new(alloc);
-        mem::swap(&mut words, &mut self.fields);
-        words.copy_from(fields.as_slice())?;
-        let mut asked = Answers {
-            program: s,
-            state: SpecState { words },
-        };
-        self.bound.clear();
-        knox_lang::exec_in(
-            alloc,
-            parts.tick.stmts.as_slice(),
-            parts.funs.as_slice(),
-            &mut spaces,
-            &mut self.bound,
-            &mut asked,
-        )?;
+        self.fields.copy_from(fields.as_slice())?;
+        let mut spaces = self.spaces(alloc, emu.as_slice(), ins, p.parts().tick.locals.as_slice())?;
+        self.answered(alloc, s, p, &mut spaces)?;
         mem::swap(emu, &mut spaces.own);
-        let Answers { program: _, state } = asked;
-        let SpecState { words } = state;
-        self.fields = mem::replace(fields, words);
+        mem::swap(fields, &mut self.fields);
         self.keep(spaces);
         Ok(())
     }

@@ -80,6 +80,12 @@ abbrev pub one : Place → List Part → Reading
 one at (a ∷ []) names = a.reading names
 one at parts names = fails at Arity
 
+-- the second of two operands has the first's width: what `two` does behind the first
+abbrev pub second : Place → Typed → Result Typed LangFault → Result (Typed × Typed) LangFault
+second at x read = do
+  y ← read
+  if x.width == y.width then Ok (x, y) else fails at Width
+
 -- two operands of one width
 abbrev pub two : Place → List Part → List Named → Result (Typed × Typed) LangFault
 two at (a ∷ b ∷ []) names = do
@@ -87,6 +93,13 @@ two at (a ∷ b ∷ []) names = do
   y ← b.reading names
   if x.width == y.width then Ok (x, y) else fails at Width
 two at parts names = fails at Arity
+
+-- the last of three operands has the width of the one before, and the first is one bit: what `three`
+-- does behind the second
+abbrev pub third : Place → Typed → Typed → Result Typed LangFault → Result (Typed × Typed × Typed) LangFault
+third at z x read = do
+  y ← read
+  if z.width == 1 && x.width == y.width then Ok (z, x, y) else fails at Width
 
 -- a condition and two operands of one width
 abbrev pub three : Place → List Part → List Named → Result (Typed × Typed × Typed) LangFault
@@ -117,6 +130,14 @@ named_symbol group x names = symbol_of x >>= λ name. named (place_of x) group n
 abbrev pub named_by_form : Place → Group → List Part → Reading
 named_by_form at group (x ∷ []) names = named_symbol group x.tree names
 named_by_form at group parts names = fails at Form
+
+-- the forms that name words: what `keyword` says of a name that is no operator
+abbrev pub form : List ℕ → Head
+form name =
+    if bytes_eq name (codes "in") then Names Input else if bytes_eq name (codes "out") then Names Output
+    else if bytes_eq name (codes "noise") then Names Noise else if bytes_eq name (codes "s") then Names Spec
+    else if bytes_eq name (codes "c") then Names Device else if bytes_eq name (codes "e") then Names Emu
+    else if bytes_eq name (codes "k") then Names Copy else Unknown
 
 abbrev pub keyword : List ℕ → Head
 keyword name =

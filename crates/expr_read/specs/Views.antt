@@ -54,9 +54,9 @@ number_in (Tree-F.List at parts close) = fails at Form
 abbrev pub number_of : Tree → Result ℕ LangFault
 number_of t = number_in (out-Tree t)
 
--- The widths of the form that is read today.
+-- The widths of words.
 abbrev pub is_width : ℕ → Bool
-is_width w = nat_le 1 w && nat_le w 8
+is_width w = nat_le 1 w && nat_le w 128
 
 -- the width that a tree gives
 abbrev pub width_of : Tree → Result ℕ LangFault

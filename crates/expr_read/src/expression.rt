@@ -1,7 +1,10 @@
 //! Expressions: one small function for each shape of operands.
-ghost use Rattle.std.specs.Prelude.{◌≡◌, map, Ok};
+ghost use Rattle.std.specs.Prelude.{◌≡◌, map, Result, Ok};
+ghost use Rattle.knox_lang.specs.declared.expr.Expr.TheVariants as exprs;
+ghost use Rattle.expr_read.specs.declared.faults.LangFault.{LangFault};
+ghost use Rattle.expr_read.specs.declared.expression.Typed.{Typed};
 ghost use Rattle.expr_read.specs.Views.{Gives};
-ghost use Rattle.expr_read.specs.Expressions.{Part, part, dearer, word, literal, named, un_width, bin_width, un_of, bin_of, ite_of, one, two, three, bv_word, bv, named_symbol, named_by_form, keyword, head_of, applied, list, expr_of, expr_of_width};
+ghost use Rattle.expr_read.specs.Expressions.{Part, part, dearer, word, literal, named, un_width, bin_width, un_of, bin_of, ite_of, one, second, two, third, three, bv_word, bv, named_symbol, named_by_form, form, keyword, head_of, applied, list, expr_of, expr_of_width};
 
 use crate::faults::{LangFault, LangWhy, fault};
 use crate::names::{Group, Named, find};
@@ -51,7 +54,16 @@ fn keyword(name: &[u8]) -> Head
         Head::Ite
     } else if name == b"bv".as_slice() {
         Head::Bv
-    } else if name == b"in".as_slice() {
+    } else {
+        form(name)
+    }
+}
+
+/// The form that names a word of the circuit or of the languages.
+fn form(name: &[u8]) -> Head
+    ensures { result ≡ form name.now }
+{
+    if name == b"in".as_slice() {
         Head::Names(Group::Input)
     } else if name == b"out".as_slice() {
         Head::Names(Group::Output)
@@ -195,8 +207,7 @@ fn bin_of(alloc: Global, op: Op2, x: Typed, y: Typed) -> Result<Typed, LangFault
 {
     let width = bin_width(op, x.width);
     let cost = x.cost.saturating_add(y.cost).saturating_add(1);
-    let x = Boxed::new(alloc, x.expr)?;
-    let y = Boxed::new(alloc, y.expr)?;
+    let (x, y) = boxed(alloc, x.expr, y.expr)?;
     Ok(Typed {
         expr: Expr::Bin(op, x, y),
         width,
@@ -210,14 +221,25 @@ fn ite_of(alloc: Global, c: Typed, x: Typed, y: Typed) -> Result<Typed, LangFaul
     let width = x.width;
     let parts = x.cost.saturating_add(y.cost);
     let cost = parts.saturating_add(c.cost).saturating_add(1);
-    let c = Boxed::new(alloc, c.expr)?;
-    let x = Boxed::new(alloc, x.expr)?;
-    let y = Boxed::new(alloc, y.expr)?;
-    Ok(Typed {
-        expr: Expr::Ite(c, x, y),
-        width,
-        cost,
-    })
+    let expr = ite(alloc, c.expr, x.expr, y.expr)?;
+    Ok(Typed { expr, width, cost })
+}
+
+fn ite(alloc: Global, c: Expr, x: Expr, y: Expr) -> Result<Expr, LangFault>
+    ensures { Gives result (Ok (exprs.Ite c x y)) }
+{
+    let (x, y) = boxed(alloc, x, y)?;
+    let c = Boxed::new(alloc, c)?;
+    Ok(Expr::Ite(c, x, y))
+}
+
+/// Two expressions, each in a box.
+fn boxed(alloc: Global, x: Expr, y: Expr) -> Result<(Boxed<Expr>, Boxed<Expr>), LangFault>
+    ensures { Gives result (Ok (x, y)) }
+{
+    let x = Boxed::new(alloc, x)?;
+    let y = Boxed::new(alloc, y)?;
+    Ok((x, y))
 }
 
 /// The expression that a tree means.
@@ -297,14 +319,26 @@ fn two(
     match parts {
         [x, y] => {
             let x = expr(alloc, x, names)?;
-            let y = expr(alloc, y, names)?;
-            if x.width == y.width {
-                Ok((x, y))
-            } else {
-                Err(fault(at, LangWhy::Width))
-            }
+            let y = expr(alloc, y, names);
+            of_one_width(at, x, y)
         }
         _ => Err(fault(at, LangWhy::Arity)),
+    }
+}
+
+/// Two operands, where the second was read and they have one width.
+fn of_one_width(
+    at: Place,
+    x: Typed,
+    y: Result<Typed, LangFault>,
+) -> Result<(Typed, Typed), LangFault>
+    ensures { (read : Result Typed LangFault) → Gives y read → Gives result (second at x read) }
+{
+    let y = y?;
+    if x.width == y.width {
+        Ok((x, y))
+    } else {
+        Err(fault(at, LangWhy::Width))
     }
 }
 
@@ -322,14 +356,29 @@ fn three(
         [c, x, y] => {
             let c = expr(alloc, c, names)?;
             let x = expr(alloc, x, names)?;
-            let y = expr(alloc, y, names)?;
-            if c.width == 1 && x.width == y.width {
-                Ok((c, x, y))
-            } else {
-                Err(fault(at, LangWhy::Width))
-            }
+            let y = expr(alloc, y, names);
+            under_condition(at, c, x, y)
         }
         _ => Err(fault(at, LangWhy::Arity)),
+    }
+}
+
+/// A condition and two operands, where the last was read, the first is one bit, and the others have
+/// one width.
+fn under_condition(
+    at: Place,
+    c: Typed,
+    x: Typed,
+    y: Result<Typed, LangFault>,
+) -> Result<(Typed, Typed, Typed), LangFault>
+    ensures { (read : Result Typed LangFault) → Gives y read → Gives result (third at c x read) }
+{
+    let is_bit = c.width == 1;
+    let (x, y) = of_one_width(at, x, y)?;
+    if is_bit {
+        Ok((c, x, y))
+    } else {
+        Err(fault(at, LangWhy::Width))
     }
 }
 

@@ -6,8 +6,8 @@ use crate::faults::{LangFault, LangWhy, fault};
 use knox_sexpr::Tree;
 use knox_text::Place;
 
-/// The greatest width of a word in the form that is read today.
-const MOST_WIDTH: u128 = 8;
+/// The greatest width of a word.
+const MOST_WIDTH: u128 = 128;
 
 /// The place of the first byte of a tree.
 pub fn place_of(tree: &Tree) -> Place

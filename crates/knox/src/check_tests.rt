@@ -1,7 +1,7 @@
 //! Proofs that are checked, by runs over shelves and sinks in memory. The formulas and the answers
 //! are worked by hand.
 use crate::status::Status;
-use crate::trial::{Ran, held, run_line};
+use crate::trial::{held, run_line};
 use knox_edge::MemShelf;
 use std::alloc::{AllocError, Global};
 use std::test::Fail;
@@ -29,196 +29,217 @@ const NO_PIGEONS: &[u8] = b"\
 14 0 11 8 3 13 6 0\n\
 ";
 
-/// Checks a proof of a formula.
-fn check(alloc: Global, formula: &[u8], proof: &[u8]) -> Result<Ran, AllocError> {
+/// What is written of a proof that refutes its formula, and of one that ends before it does.
+const VERIFIED: &[u8] = b"verified\n";
+
+const OPEN: &[u8] = b"rejected no empty clause\n";
+
+/// How a run ends that writes a line.
+fn status_of(line: &[u8]) -> Status {
+    if line == VERIFIED {
+        Status::Done
+    } else if line.starts_with(b"rejected") {
+        Status::No
+    } else {
+        Status::Text
+    }
+}
+
+/// Does a check of a proof of a formula write this line?
+fn writes(alloc: Global, formula: &[u8], proof: &[u8], line: &[u8]) -> Result<bool, AllocError> {
     let named = [(b"f".as_slice(), formula), (b"p".as_slice(), proof)];
     let shelf = MemShelf::new(alloc, held(alloc, &named)?, Vec::new(alloc));
-    run_line(alloc, "check f p", shelf, Vec::new(alloc), Vec::new(alloc))
+    let ran = run_line(alloc, "check f p", shelf, Vec::new(alloc), Vec::new(alloc))?;
+    Ok(ran.says(status_of(line), line))
 }
 
-/// Whether a run wrote this to `out`, and nothing to `err`.
-fn shows(ran: &Ran, status: Status, line: &[u8]) -> bool {
-    ran.status == status && ran.out.as_slice() == line && ran.err.is_empty()
-}
-
-/// Whether a run wrote this to `err`, and nothing to `out`.
-fn tells(ran: &Ran, line: &[u8]) -> bool {
-    ran.status == Status::Text && ran.err.as_slice() == line && ran.out.is_empty()
-}
+/// Formulas and proofs of them that are verified.
+const REFUTING: [(&[u8], &[u8]); 5] = [
+    (FOUR, REFUTED),
+    (FOUR, b"5 2 0 1 2 0\n5 d 1 0\n6 0 5 3 4 0\n"),
+    (b"p cnf 0 1\n0\n", b""),
+    // Lines after the empty clause, and its deletion.
+    (FOUR, b"5 2 0 1 2 0\n6 0 5 3 4 0\n7 1 0 6 0\n0 d 6 0\n"),
+    (PIGEONS, NO_PIGEONS),
+];
 
 #[test]
 fn proofs_that_are_verified(rt: HostRuntime) -> Result<(), Fail> {
-    let alloc = rt.alloc();
-    let cases: [(&[u8], &[u8]); 5] = [
-        (FOUR, REFUTED),
-        (FOUR, b"5 2 0 1 2 0\n5 d 1 0\n6 0 5 3 4 0\n"),
-        (b"p cnf 0 1\n0\n", b""),
-        // Lines after the empty clause, and its deletion.
-        (FOUR, b"5 2 0 1 2 0\n6 0 5 3 4 0\n7 1 0 6 0\n0 d 6 0\n"),
-        (PIGEONS, NO_PIGEONS),
-    ];
-    for (formula, proof) in cases {
-        let ran = check(alloc, formula, proof)?;
-        assert!(rt; shows(&ran, Status::Done, b"verified\n"));
+    for (number, (formula, proof)) in REFUTING.iter().enumerate() {
+        assert!(rt; writes(rt.alloc(), formula, proof, VERIFIED)?, "{number}");
     }
     Ok(())
 }
+
+/// Formulas, proofs that are refused, and the line that is written.
+const REJECTED: [(&[u8], &[u8], &[u8]); 12] = [
+    (
+        FOUR,
+        b"5 2 0 1 7 0\n6 0 5 3 4 0\n",
+        b"rejected line 1 NoSuchClause 7\n",
+    ),
+    (
+        FOUR,
+        b"5 2 0 1 0\n6 0 5 3 4 0\n",
+        b"rejected line 1 NoConflict\n",
+    ),
+    (
+        FOUR,
+        b"5 1 0 2 0\n6 0 5 3 4 0\n",
+        b"rejected line 1 NotUnit 2\n",
+    ),
+    (FOUR, b"5 2 0 1 2 0\n", b"rejected no empty clause\n"),
+    (
+        FOUR,
+        b"4 2 0 1 2 0\n6 0 5 3 4 0\n",
+        b"rejected line 1 IdNotNew 4\n",
+    ),
+    (
+        FOUR,
+        b"5 2 0 -1 2 0\n6 0 5 3 4 0\n",
+        b"rejected line 1 Rat 5\n",
+    ),
+    (
+        FOUR,
+        b"5 2 0 1 2 0\n5 d 9 0\n6 0 5 3 4 0\n",
+        b"rejected line 2 NoSuchClause 9\n",
+    ),
+    (
+        FOUR,
+        b"5 2 0 1 9223372036854775807 0\n",
+        b"rejected line 1 NoSuchClause 9223372036854775807\n",
+    ),
+    // The number is that of the text's line, and the first line that is refused is named.
+    (
+        FOUR,
+        b"c\n\n5 2 0 1 2 0\n6 0 5 3 0\n7 0 9 0\n",
+        b"rejected line 4 NoConflict\n",
+    ),
+    // A line after the empty clause is still to be accepted.
+    (
+        FOUR,
+        b"5 2 0 1 2 0\n6 0 5 3 4 0\n6 1 0 6 0\n",
+        b"rejected line 3 IdNotNew 6\n",
+    ),
+    (FOUR, b"", b"rejected no empty clause\n"),
+    // The hints leave out that pigeons 2 and 3 don't share hole 2.
+    (
+        PIGEONS,
+        b"10 -1 0 4 5 2 3 0\n",
+        b"rejected line 1 NoConflict\n",
+    ),
+];
 
 #[test]
 fn proofs_that_are_rejected(rt: HostRuntime) -> Result<(), Fail> {
-    let alloc = rt.alloc();
-    let cases: [(&[u8], &[u8]); 11] = [
-        (
-            b"5 2 0 1 7 0\n6 0 5 3 4 0\n",
-            b"rejected line 1 NoSuchClause 7\n",
-        ),
-        (b"5 2 0 1 0\n6 0 5 3 4 0\n", b"rejected line 1 NoConflict\n"),
-        (b"5 1 0 2 0\n6 0 5 3 4 0\n", b"rejected line 1 NotUnit 2\n"),
-        (b"5 2 0 1 2 0\n", b"rejected no empty clause\n"),
-        (
-            b"4 2 0 1 2 0\n6 0 5 3 4 0\n",
-            b"rejected line 1 IdNotNew 4\n",
-        ),
-        (b"5 2 0 -1 2 0\n6 0 5 3 4 0\n", b"rejected line 1 Rat 5\n"),
-        (
-            b"5 2 0 1 2 0\n5 d 9 0\n6 0 5 3 4 0\n",
-            b"rejected line 2 NoSuchClause 9\n",
-        ),
-        (
-            b"5 2 0 1 9223372036854775807 0\n",
-            b"rejected line 1 NoSuchClause 9223372036854775807\n",
-        ),
-        // The number is that of the text's line, and the first line that is refused is named.
-        (
-            b"c\n\n5 2 0 1 2 0\n6 0 5 3 0\n7 0 9 0\n",
-            b"rejected line 4 NoConflict\n",
-        ),
-        // A line after the empty clause is still to be accepted.
-        (
-            b"5 2 0 1 2 0\n6 0 5 3 4 0\n6 1 0 6 0\n",
-            b"rejected line 3 IdNotNew 6\n",
-        ),
-        (b"", b"rejected no empty clause\n"),
-    ];
-    for (proof, line) in cases {
-        let ran = check(alloc, FOUR, proof)?;
-        assert!(rt; shows(&ran, Status::No, line));
+    for (number, (formula, proof, line)) in REJECTED.iter().enumerate() {
+        assert!(rt; writes(rt.alloc(), formula, proof, line)?, "{number}");
     }
-    // The hints leave out that pigeons 2 and 3 don't share hole 2.
-    let ran = check(alloc, PIGEONS, b"10 -1 0 4 5 2 3 0\n")?;
-    assert!(rt; shows(&ran, Status::No, b"rejected line 1 NoConflict\n"));
     Ok(())
 }
+
+/// Formulas and proofs of which one has a fault, and the line that is written.
+const TOLD: [(&[u8], &[u8], &[u8]); 7] = [
+    (b"p cnf 2 1\n1 0\n2 0\n", REFUTED, b"text F 3:1 Count\n"),
+    (b"p cnf 1 1\n2 0\n", REFUTED, b"text F 2:1 Variable\n"),
+    (FOUR, b"5 2 0 1 2", b"text P 1:10 Shape\n"),
+    // The formula's fault comes before the proof's.
+    (b"p dnf 1 1\n", b"5 2 0 1 2", b"text F 1:3 Header\n"),
+    (b"", b"", b"text F 1:1 Header\n"),
+    // A fault behind a line that would be refused.
+    (FOUR, b"5 2 0 1 7 0\n6 0 5 x 4 0\n", b"text P 2:7 Shape\n"),
+    // A fault behind the empty clause.
+    (
+        FOUR,
+        b"5 2 0 1 2 0\n6 0 5 3 4 0\n7 1 0 -\n",
+        b"text P 3:7 Shape\n",
+    ),
+];
 
 #[test]
 fn texts_with_a_fault(rt: HostRuntime) -> Result<(), Fail> {
-    let alloc = rt.alloc();
-    let cases: [(&[u8], &[u8], &[u8]); 7] = [
-        (b"p cnf 2 1\n1 0\n2 0\n", REFUTED, b"text F 3:1 Count\n"),
-        (b"p cnf 1 1\n2 0\n", REFUTED, b"text F 2:1 Variable\n"),
-        (FOUR, b"5 2 0 1 2", b"text P 1:10 Shape\n"),
-        // The formula's fault comes before the proof's.
-        (b"p dnf 1 1\n", b"5 2 0 1 2", b"text F 1:3 Header\n"),
-        (b"", b"", b"text F 1:1 Header\n"),
-        // A fault behind a line that would be refused.
-        (FOUR, b"5 2 0 1 7 0\n6 0 5 x 4 0\n", b"text P 2:7 Shape\n"),
-        // A fault behind the empty clause.
-        (
-            FOUR,
-            b"5 2 0 1 2 0\n6 0 5 3 4 0\n7 1 0 -\n",
-            b"text P 3:7 Shape\n",
-        ),
-    ];
-    for (formula, proof, line) in cases {
-        let ran = check(alloc, formula, proof)?;
-        assert!(rt; tells(&ran, line));
+    for (number, (formula, proof, line)) in TOLD.iter().enumerate() {
+        assert!(rt; writes(rt.alloc(), formula, proof, line)?, "{number}");
     }
     Ok(())
 }
+
+/// What is written of the refutation's first bytes. A line that ends too soon has its fault behind its
+/// last byte.
+const OF_PROOF: [&[u8]; 25] = [
+    OPEN,
+    b"text P 1:2 Shape\n",
+    b"text P 1:3 Shape\n",
+    b"text P 1:4 Shape\n",
+    b"text P 1:5 Shape\n",
+    b"text P 1:6 Shape\n",
+    b"text P 1:7 Shape\n",
+    b"text P 1:8 Shape\n",
+    b"text P 1:9 Shape\n",
+    b"text P 1:10 Shape\n",
+    b"text P 1:11 Shape\n",
+    OPEN,
+    OPEN,
+    b"text P 2:2 Shape\n",
+    b"text P 2:3 Shape\n",
+    b"text P 2:4 Shape\n",
+    b"text P 2:5 Shape\n",
+    b"text P 2:6 Shape\n",
+    b"text P 2:7 Shape\n",
+    b"text P 2:8 Shape\n",
+    b"text P 2:9 Shape\n",
+    b"text P 2:10 Shape\n",
+    b"text P 2:11 Shape\n",
+    VERIFIED,
+    VERIFIED,
+];
 
 #[test]
 fn prefixes_of_a_proof(rt: HostRuntime) -> Result<(), Fail> {
-    let alloc = rt.alloc();
-    let open: &[u8] = b"rejected no empty clause\n";
-    let done: &[u8] = b"verified\n";
-    // A line that ends too soon has its fault behind its last byte.
-    let cases: [&[u8]; 25] = [
-        open,
-        b"text P 1:2 Shape\n",
-        b"text P 1:3 Shape\n",
-        b"text P 1:4 Shape\n",
-        b"text P 1:5 Shape\n",
-        b"text P 1:6 Shape\n",
-        b"text P 1:7 Shape\n",
-        b"text P 1:8 Shape\n",
-        b"text P 1:9 Shape\n",
-        b"text P 1:10 Shape\n",
-        b"text P 1:11 Shape\n",
-        open,
-        open,
-        b"text P 2:2 Shape\n",
-        b"text P 2:3 Shape\n",
-        b"text P 2:4 Shape\n",
-        b"text P 2:5 Shape\n",
-        b"text P 2:6 Shape\n",
-        b"text P 2:7 Shape\n",
-        b"text P 2:8 Shape\n",
-        b"text P 2:9 Shape\n",
-        b"text P 2:10 Shape\n",
-        b"text P 2:11 Shape\n",
-        done,
-        done,
-    ];
-    for (end, line) in cases.iter().enumerate() {
+    for (end, line) in OF_PROOF.iter().enumerate() {
         assert!(rt; end <= REFUTED.len());
-        let ran = check(alloc, FOUR, &REFUTED[..end])?;
-        if *line == open {
-            assert!(rt; shows(&ran, Status::No, line), "{end}");
-        } else if *line == done {
-            assert!(rt; shows(&ran, Status::Done, line), "{end}");
-        } else {
-            assert!(rt; tells(&ran, line), "{end}");
-        }
+        assert!(rt; writes(rt.alloc(), FOUR, &REFUTED[..end], line)?, "{end}");
     }
     Ok(())
 }
 
+/// Two clauses that can't both be true, and a proof of it.
+const ONE: &[u8] = b"p cnf 1 2\n1 0\n-1 0\n";
+
+const ONE_REFUTED: &[u8] = b"3 0 1 2 0\n";
+
+/// What is written of the formula's first bytes. Behind a line feed stands the next line's first column.
+const OF_FORMULA: [&[u8]; 20] = [
+    b"text F 1:1 Header\n",
+    b"text F 1:2 Header\n",
+    b"text F 1:3 Header\n",
+    b"text F 1:3 Header\n",
+    b"text F 1:3 Header\n",
+    b"text F 1:6 Header\n",
+    b"text F 1:7 Header\n",
+    b"text F 1:8 Header\n",
+    b"text F 1:9 Header\n",
+    b"text F 1:10 Count\n",
+    b"text F 2:1 Count\n",
+    b"text F 2:2 Count\n",
+    b"text F 2:3 Count\n",
+    b"text F 2:4 Count\n",
+    b"text F 3:1 Count\n",
+    b"text F 3:1 Shape\n",
+    b"text F 3:3 Count\n",
+    b"text F 3:4 Count\n",
+    VERIFIED,
+    VERIFIED,
+];
+
 #[test]
 fn prefixes_of_a_formula(rt: HostRuntime) -> Result<(), Fail> {
-    let alloc = rt.alloc();
-    let formula: &[u8] = b"p cnf 1 2\n1 0\n-1 0\n";
-    let done: &[u8] = b"verified\n";
-    // Behind a line feed stands the next line's first column.
-    let cases: [&[u8]; 20] = [
-        b"text F 1:1 Header\n",
-        b"text F 1:2 Header\n",
-        b"text F 1:3 Header\n",
-        b"text F 1:3 Header\n",
-        b"text F 1:3 Header\n",
-        b"text F 1:6 Header\n",
-        b"text F 1:7 Header\n",
-        b"text F 1:8 Header\n",
-        b"text F 1:9 Header\n",
-        b"text F 1:10 Count\n",
-        b"text F 2:1 Count\n",
-        b"text F 2:2 Count\n",
-        b"text F 2:3 Count\n",
-        b"text F 2:4 Count\n",
-        b"text F 3:1 Count\n",
-        b"text F 3:1 Shape\n",
-        b"text F 3:3 Count\n",
-        b"text F 3:4 Count\n",
-        done,
-        done,
-    ];
-    for (end, line) in cases.iter().enumerate() {
-        assert!(rt; end <= formula.len());
-        let ran = check(alloc, &formula[..end], b"3 0 1 2 0\n")?;
-        if *line == done {
-            assert!(rt; shows(&ran, Status::Done, line), "{end}");
-        } else {
-            assert!(rt; tells(&ran, line), "{end}");
-        }
+    for (end, line) in OF_FORMULA.iter().enumerate() {
+        assert!(rt; end <= ONE.len());
+        assert!(rt;
+            writes(rt.alloc(), &ONE[..end], ONE_REFUTED, line)?,
+            "{end}"
+        );
     }
     Ok(())
 }

@@ -1,8 +1,7 @@
 //! What a run prints of circuits' texts with a fault, which are one edit away from the PIN store's.
-use crate::devices::{CIRCUIT, SMALL, Texts};
-use crate::form_tests::{LAST, edited};
 use crate::status::Status;
-use crate::trial::verify;
+use crate::trial::{Case, first_other, verify};
+use example_texts::{CIRCUIT, SMALL, Texts, edited};
 use std::alloc::{AllocError, Global};
 use std::test::Fail;
 
@@ -54,10 +53,13 @@ const BEHIND: [(&[u8], &[u8]); 16] = [
     (b"\r\n22 frob\r\n", b"text C line 23 Keyword\n"),
 ];
 
-/// Does a run of these texts print this and nothing else?
-fn prints(alloc: Global, texts: Texts, line: &[u8]) -> Result<bool, AllocError> {
-    let ran = verify(alloc, texts, Vec::new(alloc))?;
-    Ok(ran.status == Status::Text && ran.err.as_slice() == line && ran.out.is_empty())
+/// Does a run of the store's texts with another circuit tell this?
+fn tells(alloc: Global, circuit: &[u8], line: &[u8]) -> Result<bool, AllocError> {
+    let texts = Texts {
+        c: circuit,
+        ..SMALL
+    };
+    Ok(verify(alloc, texts, Vec::new(alloc))?.says(Status::Text, line))
 }
 
 #[test]
@@ -65,11 +67,7 @@ fn a_faulty_circuit_is_told(rt: HostRuntime) -> Result<(), Fail> {
     let alloc = rt.alloc();
     for (number, (old, new, line)) in FAULTY.iter().enumerate() {
         let text = edited(alloc, SMALL.c, old, new)?;
-        let texts = Texts {
-            c: text.as_slice(),
-            ..SMALL
-        };
-        assert!(rt; prints(alloc, texts, line)?, "{number}");
+        assert!(rt; tells(alloc, text.as_slice(), line)?, "{number}");
     }
     Ok(())
 }
@@ -80,50 +78,59 @@ fn a_faulty_line_behind_the_last_is_told(rt: HostRuntime) -> Result<(), Fail> {
     for (number, (more, line)) in BEHIND.iter().enumerate() {
         let mut text = Vec::from_slice(alloc, SMALL.c)?;
         text.extend_from_slice(more)?;
-        let texts = Texts {
-            c: text.as_slice(),
-            ..SMALL
-        };
-        assert!(rt; prints(alloc, texts, line)?, "{number}");
+        assert!(rt; tells(alloc, text.as_slice(), line)?, "{number}");
     }
     Ok(())
 }
 
+/// The circuit's fault.
+const FROB: &[u8] = b"text C line 1 Keyword\n";
+
 /// Texts of which the circuit's isn't the only one with a fault.
-const SEVERAL: [Texts<'static>; 4] = [
-    Texts {
-        c: b"1 frob",
-        s: b"(spec",
-        ..SMALL
-    },
-    Texts {
-        c: b"1 frob",
-        d: b"(driver)",
-        ..SMALL
-    },
-    Texts {
-        c: b"1 frob",
-        e: b"",
-        h: b"",
-        ..SMALL
-    },
-    Texts {
-        c: b"1 frob",
-        s: b"",
-        d: b"",
-        e: b"",
-        h: b"",
-    },
+const SEVERAL: [Case; 4] = [
+    (
+        Texts {
+            c: b"1 frob",
+            s: b"(spec",
+            ..SMALL
+        },
+        Status::Text,
+        FROB,
+    ),
+    (
+        Texts {
+            c: b"1 frob",
+            d: b"(driver)",
+            ..SMALL
+        },
+        Status::Text,
+        FROB,
+    ),
+    (
+        Texts {
+            c: b"1 frob",
+            e: b"",
+            h: b"",
+            ..SMALL
+        },
+        Status::Text,
+        FROB,
+    ),
+    (
+        Texts {
+            c: b"1 frob",
+            s: b"",
+            d: b"",
+            e: b"",
+            h: b"",
+        },
+        Status::Text,
+        FROB,
+    ),
 ];
 
 #[test]
 fn the_circuit_comes_first(rt: HostRuntime) -> Result<(), Fail> {
-    let alloc = rt.alloc();
-    for (number, texts) in SEVERAL.iter().enumerate() {
-        assert!(rt;
-            prints(alloc, *texts, b"text C line 1 Keyword\n")?,
-            "{number}"
-        );
-    }
+    assert_eq!(rt; first_other(rt.alloc(), &SEVERAL)?, None);
     Ok(())
 }

@@ -1,10 +1,8 @@
 //! Texts that are one edit away from those of the PIN store: some are in no form that is built, each
 //! for one reason, and others say the same in an unusual spelling.
-use crate::devices::{SMALL, Texts};
 use crate::status::Status;
 use crate::trial::verify;
-use knox_sexpr::SexprFault;
-use knox_text::Place;
+use example_texts::{LAST, SMALL, Texts, edited};
 use std::alloc::{AllocError, Global};
 use std::test::Fail;
 
@@ -21,13 +19,10 @@ enum Which {
 /// An edit of a text: what stands once in it, and what stands there instead.
 type Edit = (Which, &'static [u8], &'static [u8]);
 
-/// The last line of the circuit.
-pub(crate) const LAST: &[u8] = b"21 output 12 ok\n";
-
 /// Edits that leave the form.
 const OUTSIDE: [Edit; 39] = [
     (Which::S, b"secret 4 0)", b"secret 4 16)"),
-    (Which::S, b"secret 4 0)", b"secret 4 0) (field x 9 0)"),
+    (Which::S, b"secret 4 0)", b"secret 4 0) (field x 129 0)"),
     (Which::S, b"secret 4 0)", b"secret 4 0) (field secret 4 0)"),
     (
         Which::S,
@@ -156,24 +151,6 @@ const INSIDE: [Edit; 20] = [
     ),
 ];
 
-/// A text with a piece of it replaced, or nothing where the piece isn't in it.
-pub(crate) fn edited(
-    alloc: Global,
-    text: &[u8],
-    old: &[u8],
-    new: &[u8],
-) -> Result<Vec<u8>, AllocError> {
-    for (k, _) in text.iter().enumerate() {
-        if let Some(rest) = text[k..].strip_prefix(old) {
-            let mut out = Vec::from_slice(alloc, &text[..k])?;
-            out.extend_from_slice(new)?;
-            out.extend_from_slice(rest)?;
-            return Ok(out);
-        }
-    }
-    Ok(Vec::new(alloc))
-}
-
 /// How the store's texts end with one of them edited.
 fn ended(alloc: Global, edit: Edit) -> Result<Status, AllocError> {
     let (which, old, new) = edit;
@@ -211,61 +188,6 @@ fn one_edit_leaves_the_form(rt: HostRuntime) -> Result<(), Fail> {
 fn unusual_spellings_are_read(rt: HostRuntime) -> Result<(), Fail> {
     for (number, edit) in INSIDE.iter().enumerate() {
         assert_eq!(rt; ended(rt.alloc(), *edit)?, Status::Yes, "{number}");
-    }
-    Ok(())
-}
-
-/// Is a place past the end of a text?
-fn is_past(place: Place, text: &[u8]) -> bool {
-    let feeds = text.iter().filter(|b| **b == b'\n').count();
-    let behind = text.iter().rev().take_while(|b| **b != b'\n').count();
-    let line = place.line as usize;
-    line > feeds + 1 || (line == feeds + 1 && place.column as usize > behind + 1)
-}
-
-/// Is a fault of trees at a place that isn't past the end?
-fn is_within(fault: SexprFault, text: &[u8]) -> bool {
-    match fault {
-        SexprFault::TooDeep(at) => !is_past(at, text),
-        SexprFault::Unopened(at) => !is_past(at, text),
-        SexprFault::Unclosed(at) => !is_past(at, text),
-        SexprFault::BadAtom(at) => !is_past(at, text),
-        SexprFault::Memory => false,
-    }
-}
-
-/// Is a prefix read as trees, or refused at a place within it?
-fn reads_trees(alloc: Global, prefix: &[u8]) -> bool {
-    if prefix.len() > 1000 {
-        return false;
-    }
-    match knox_sexpr::read(alloc, prefix) {
-        Ok(_) => true,
-        Err(fault) => is_within(fault, prefix),
-    }
-}
-
-/// Is a prefix read as a circuit, or refused at a line of it?
-fn reads_circuit(alloc: Global, prefix: &[u8]) -> bool {
-    if prefix.len() > 1000 {
-        return false;
-    }
-    let feeds = prefix.iter().filter(|b| **b == b'\n').count();
-    match btor_read::read_circuit(alloc, prefix) {
-        Ok(_) => true,
-        Err(fault) => fault.line as usize <= feeds + 1,
-    }
-}
-
-#[test]
-fn prefixes_are_read_or_have_a_fault_within(rt: HostRuntime) -> Result<(), Fail> {
-    for text in [SMALL.s, SMALL.h] {
-        for (k, _) in text.iter().enumerate() {
-            assert!(rt; reads_trees(rt.alloc(), &text[..k]), "{k}");
-        }
-    }
-    for (k, _) in SMALL.c.iter().enumerate() {
-        assert!(rt; reads_circuit(rt.alloc(), &SMALL.c[..k]), "{k}");
     }
     Ok(())
 }

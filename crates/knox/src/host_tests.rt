@@ -1,24 +1,13 @@
 //! Verdicts on devices with a host, on drivers and hints that fail there, and texts that lack a call or
 //! a form.
-use crate::devices::{DRIVER, EMULATOR, HINTS, SMALL, Texts};
-use crate::form_tests::edited;
-use crate::host_devices::{
-    IMPATIENT_DRIVER, NOISY_CIRCUIT, NOISY_EMULATOR, PADDED_CIRCUIT, SLOW_CIRCUIT, SLOW_DRIVER,
-    SLOW_EMULATOR, SLOW_HINTS,
-};
 use crate::status::Status;
-use crate::trial::{Ran, verify};
+use crate::trial::{Case, first_other, verify};
+use example_texts::{
+    DRIVER, EMULATOR, HINTS, IMPATIENT_DRIVER, NOISY_CIRCUIT, NOISY_EMULATOR, PADDED_CIRCUIT, SLOW,
+    SMALL, Texts, edited,
+};
 use std::alloc::{AllocError, Global};
 use std::test::Fail;
-
-/// The store that is busy for a tick.
-pub(crate) const SLOW: Texts<'static> = Texts {
-    c: SLOW_CIRCUIT,
-    d: SLOW_DRIVER,
-    e: SLOW_EMULATOR,
-    h: SLOW_HINTS,
-    ..SMALL
-};
 
 /// The store whose answer is noise at power-on.
 const NOISY: Texts<'static> = Texts {
@@ -26,9 +15,6 @@ const NOISY: Texts<'static> = Texts {
     e: NOISY_EMULATOR,
     ..SMALL
 };
-
-/// Texts, how their run ends, and what it writes.
-type Case = (Texts<'static>, Status, &'static [u8]);
 
 /// The driver that may wait, and one that gets stuck behind its first tick: field, secret, ok, busy and
 /// argument are 0.
@@ -65,17 +51,6 @@ const CASES: [Case; 3] = [
         b"undecided 2\nchoices 0 0 1\n",
     ),
 ];
-
-/// The first case that ends in another way, or writes something else.
-fn first_other(alloc: Global, cases: &[Case]) -> Result<Option<usize>, AllocError> {
-    for (number, (texts, status, out)) in cases.iter().enumerate() {
-        let ran = verify(alloc, *texts, Vec::new(alloc))?;
-        if ran.status != *status || ran.out.as_slice() != *out || !ran.err.is_empty() {
-            return Ok(Some(number));
-        }
-    }
-    Ok(None)
-}
 
 #[test]
 fn a_device_that_is_busy(rt: HostRuntime) -> Result<(), Fail> {
@@ -174,9 +149,9 @@ const FAILING: [Edit; 10] = [
     ),
 ];
 
-/// What a run of the store's texts comes to, with one of them edited.
-fn ended(alloc: Global, edit: &Edit) -> Result<Ran, AllocError> {
-    let (which, old, new, _) = edit;
+/// Does a run of the store's texts end so and write that, with one of them edited?
+fn ends(alloc: Global, edit: &Edit, status: Status) -> Result<bool, AllocError> {
+    let (which, old, new, line) = edit;
     let text = match which {
         Which::S => SMALL.s,
         Which::D => DRIVER,
@@ -189,15 +164,13 @@ fn ended(alloc: Global, edit: &Edit) -> Result<Ran, AllocError> {
         Which::D => Texts { d: text, ..SMALL },
         Which::H => Texts { h: text, ..SMALL },
     };
-    verify(alloc, texts, Vec::new(alloc))
+    Ok(verify(alloc, texts, Vec::new(alloc))?.says(status, line))
 }
 
 #[test]
 fn hints_that_fail(rt: HostRuntime) -> Result<(), Fail> {
     for (number, edit) in FAILING.iter().enumerate() {
-        let ran = ended(rt.alloc(), edit)?;
-        assert_eq!(rt; ran.status, Status::Undecided, "{number}");
-        assert!(rt; ran.out.as_slice() == edit.3, "{number}");
+        assert!(rt; ends(rt.alloc(), edit, Status::Undecided)?, "{number}");
     }
     Ok(())
 }
@@ -232,10 +205,7 @@ const LACKING: [Edit; 8] = [
 #[test]
 fn texts_that_lack_a_form(rt: HostRuntime) -> Result<(), Fail> {
     for (number, edit) in LACKING.iter().enumerate() {
-        let ran = ended(rt.alloc(), edit)?;
-        assert_eq!(rt; ran.status, Status::Text, "{number}");
-        assert!(rt; ran.err.as_slice() == edit.3, "{number}");
-        assert!(rt; ran.out.is_empty(), "{number}");
+        assert!(rt; ends(rt.alloc(), edit, Status::Text)?, "{number}");
     }
     Ok(())
 }
@@ -257,9 +227,7 @@ const FAULTY: [Edit; 5] = [
 #[test]
 fn texts_that_lack_more(rt: HostRuntime) -> Result<(), Fail> {
     for (number, edit) in FAULTY.iter().enumerate() {
-        let ran = ended(rt.alloc(), edit)?;
-        assert_eq!(rt; ran.status, Status::NotYet, "{number}");
-        assert!(rt; ran.err.as_slice() == edit.3, "{number}");
+        assert!(rt; ends(rt.alloc(), edit, Status::NotYet)?, "{number}");
     }
     Ok(())
 }

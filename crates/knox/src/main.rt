@@ -1,42 +1,26 @@
 //! The program `knox`: verifies a hardware security module against its specification.
 #![tactic(auto)]
 
-#[cfg(test)]
-mod branch_tests;
 mod check_saying;
 #[cfg(test)]
 mod check_tests;
 mod checking;
 #[cfg(test)]
-mod circuit_fault_tests;
-#[cfg(test)]
 mod circuit_tests;
 mod command;
 mod delivery;
 #[cfg(test)]
-mod devices;
-#[cfg(test)]
-mod driver_tests;
-#[cfg(test)]
-mod emulator_tests;
-#[cfg(test)]
 mod form_tests;
-#[cfg(test)]
-mod host_devices;
 #[cfg(test)]
 mod host_tests;
 mod judging;
 #[cfg(test)]
-mod operator_tests;
+mod memory_tests;
 mod outcome;
 mod reading;
 mod run;
-#[cfg(test)]
-mod run_tests;
 mod saying;
 mod status;
-#[cfg(test)]
-mod store_tests;
 #[cfg(test)]
 mod tests;
 mod text_saying;

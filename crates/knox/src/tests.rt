@@ -40,9 +40,7 @@ fn words_that_are_no_command(rt: HostRuntime) -> Result<(), Fail> {
     for line in lines {
         let shelf = five_texts(alloc, Vec::new(alloc))?;
         let ran = run_line(alloc, line, shelf, Vec::new(alloc), Vec::new(alloc))?;
-        assert_eq!(rt; ran.status, Status::Usage, "{line}");
-        assert!(rt; ran.err.as_slice() == USAGE.as_bytes(), "{line}");
-        assert!(rt; ran.out.is_empty(), "{line}");
+        assert!(rt; ran.says(Status::Usage, USAGE.as_bytes()), "{line}");
     }
     Ok(())
 }
@@ -59,8 +57,7 @@ fn commands_that_are_not_built(rt: HostRuntime) -> Result<(), Fail> {
     for line in lines {
         let shelf = MemShelf::new(alloc, Vec::new(alloc), Vec::new(alloc));
         let ran = run_line(alloc, line, shelf, Vec::new(alloc), Vec::new(alloc))?;
-        assert_eq!(rt; ran.status, Status::NotYet, "{line}");
-        assert!(rt; ran.err.as_slice() == b"not yet\n".as_slice(), "{line}");
+        assert!(rt; ran.says(Status::NotYet, b"not yet\n"), "{line}");
     }
     Ok(())
 }
@@ -71,9 +68,7 @@ fn a_third_read_that_fails(rt: HostRuntime) -> Result<(), Fail> {
     let shelf = five_texts(alloc, vec![in alloc; 3]?)?;
     let line = "verify c s d e h budget 4294967296 paths 065536";
     let ran = run_line(alloc, line, shelf, Vec::new(alloc), Vec::new(alloc))?;
-    assert_eq!(rt; ran.status, Status::ReadFault);
-    assert!(rt; ran.err.as_slice() == b"cannot read d\n".as_slice());
-    assert!(rt; ran.out.is_empty());
+    assert!(rt; ran.says(Status::ReadFault, b"cannot read d\n"));
     Ok(())
 }
 
@@ -105,8 +100,7 @@ fn a_text_of_one_byte_too_many(rt: HostRuntime) -> Result<(), Fail> {
         Vec::new(alloc),
         Vec::new(alloc),
     )?;
-    assert_eq!(rt; ran.status, Status::Text);
-    assert!(rt; ran.err.as_slice() == b"text S TooLong\n".as_slice());
+    assert!(rt; ran.says(Status::Text, b"text S TooLong\n"));
     Ok(())
 }
 

@@ -1,8 +1,8 @@
 //! Runs over shelves and sinks in memory, for tests.
-use crate::devices::Texts;
 use crate::run::run;
 use crate::status::Status;
 use crate::words::Words;
+use example_texts::Texts;
 use knox_edge::{MemShelf, MemSink};
 use std::alloc::{AllocError, Global};
 
@@ -12,6 +12,20 @@ pub(crate) struct Ran {
     pub(crate) status: Status,
     pub(crate) out: Vec<u8>,
     pub(crate) err: Vec<u8>,
+}
+
+impl Ran {
+    /// Whether the run ended so, and wrote this alone: to `err` where nothing was answered, else to
+    /// `out`.
+    pub(crate) fn says(&self, status: Status, line: &[u8]) -> bool {
+        let (told, silent) = match status {
+            Status::Text | Status::Usage | Status::ReadFault | Status::NotYet => {
+                (&self.err, &self.out)
+            }
+            _ => (&self.out, &self.err),
+        };
+        self.status == status && told.as_slice() == line && silent.is_empty()
+    }
 }
 
 /// Texts with their names, as a shelf holds them.
@@ -66,4 +80,17 @@ pub(crate) fn verify(alloc: Global, texts: Texts, fail: Vec<u64>) -> Result<Ran,
     ];
     let shelf = MemShelf::new(alloc, held(alloc, &named)?, Vec::new(alloc));
     run_line(alloc, "verify c s d e h", shelf, fail, Vec::new(alloc))
+}
+
+/// Five texts, how their run ends, and what it writes.
+pub(crate) type Case = (Texts<'static>, Status, &'static [u8]);
+
+/// The first case that ends in another way, or writes something else.
+pub(crate) fn first_other(alloc: Global, cases: &[Case]) -> Result<Option<usize>, AllocError> {
+    for (number, (texts, status, line)) in cases.iter().enumerate() {
+        if !verify(alloc, *texts, Vec::new(alloc))?.says(*status, line) {
+            return Ok(Some(number));
+        }
+    }
+    Ok(None)
 }

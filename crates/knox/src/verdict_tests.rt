@@ -1,16 +1,14 @@
 //! Verdicts on small devices, and texts that are outside the form.
-use crate::devices::{
+use crate::status::Status;
+use crate::trial::{Case, first_other, verify};
+use example_texts::{
     ANSWERING_EMULATOR, LEAKING, SMALL, TORN, TORN_DRIVER, TORN_EMULATOR, TORN_HINTS, TORN_SPEC,
     TWO_OUTPUTS, TWO_STATES, Texts, WEAK_HINTS, WIDE_CIRCUIT, WIDE_DRIVER, WIDE_EMULATOR,
     WIDE_SPEC,
 };
-use crate::status::Status;
-use crate::trial::verify;
 use std::test::Fail;
 
-/// Texts, how their run ends, and what it writes.
-type Case = (Texts<'static>, Status, &'static [u8]);
-
+/// Texts of the form.
 const CASES: [Case; 8] = [
     (SMALL, Status::Yes, b"yes\n"),
     // In ascending order the first choices at which circuit and emulator show different
@@ -91,29 +89,25 @@ const CASES: [Case; 8] = [
     ),
 ];
 
+/// Hints outside the form.
+const OUTSIDE: [Case; 1] = [(
+    Texts {
+        h: b"(refine #b1) (refine #b1)",
+        ..SMALL
+    },
+    Status::NotYet,
+    b"not yet\n",
+)];
+
 #[test]
 fn verdicts_and_their_lines(rt: HostRuntime) -> Result<(), Fail> {
-    let alloc = rt.alloc();
-    for (texts, status, out) in CASES {
-        let ran = verify(alloc, texts, Vec::new(alloc))?;
-        assert_eq!(rt; ran.status, status);
-        assert!(rt; ran.out.as_slice() == out);
-        assert!(rt; ran.err.is_empty());
-    }
+    assert_eq!(rt; first_other(rt.alloc(), &CASES)?, None);
     Ok(())
 }
 
 #[test]
 fn a_text_outside_the_form(rt: HostRuntime) -> Result<(), Fail> {
-    let alloc = rt.alloc();
-    let texts = Texts {
-        h: b"(refine #b1) (refine #b1)",
-        ..SMALL
-    };
-    let ran = verify(alloc, texts, Vec::new(alloc))?;
-    assert_eq!(rt; ran.status, Status::NotYet);
-    assert!(rt; ran.err.as_slice() == b"not yet\n".as_slice());
-    assert!(rt; ran.out.is_empty());
+    assert_eq!(rt; first_other(rt.alloc(), &OUTSIDE)?, None);
     Ok(())
 }
 
@@ -121,7 +115,6 @@ fn a_text_outside_the_form(rt: HostRuntime) -> Result<(), Fail> {
 fn an_out_that_fails(rt: HostRuntime) -> Result<(), Fail> {
     let alloc = rt.alloc();
     let ran = verify(alloc, SMALL, vec![in alloc; 1]?)?;
-    assert_eq!(rt; ran.status, Status::WriteFault);
-    assert!(rt; ran.out.as_slice() == b"ye".as_slice());
+    assert!(rt; ran.says(Status::WriteFault, b"ye"));
     Ok(())
 }

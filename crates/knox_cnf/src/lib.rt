@@ -4,8 +4,6 @@
 
 mod formula;
 mod literal;
-#[cfg(test)]
-mod tests;
 
 pub use formula::{Assignment, Clause, Cnf, satisfies};
 pub use literal::Lit;

@@ -8,8 +8,6 @@ mod memory;
 mod shelf;
 mod sink;
 mod stream;
-#[cfg(test)]
-mod tests;
 
 pub use files::FileShelf;
 pub use memory::{MemShelf, MemSink};

@@ -16,6 +16,3 @@ pub use fault::SexprFault;
 pub use printing::{print, printed_again};
 pub use reading::{one_meaning, read};
 pub use tree::Tree;
-
-#[cfg(test)]
-mod tests;

@@ -24,6 +24,3 @@ pub use resize::{ite, sext, slice, uext};
 pub use total::{choose, op2_or, sext_or, slice_or, uext_or, word_at, word_far, word_or, zero};
 pub use widths::{are_widths, fits, has_width};
 pub use word::Word;
-
-#[cfg(test)]
-mod tests;

@@ -241,7 +241,7 @@ fn spec_of(alloc: Global, tree: &Tree, more: &[Tree]) -> Result<SpecProgram, Lan
 }
 
 /// The specification that the trees of a text mean, where the text ends at a place. Read today are
-/// fields of one word and operations with `local`, `assign` and `if`, and widths up to 8.
+/// fields of one word and operations with `local`, `assign` and `if`.
 pub fn read_spec(alloc: Global, trees: &[Tree], end: Place) -> Result<SpecProgram, LangFault>
     ensures read { Gives result (spec_text end trees.now) }
     ensures fits { IfOk result (λ p. spec_fits p ≡ true) }

@@ -9,8 +9,6 @@ mod laws;
 mod numbers;
 mod operands;
 mod reading;
-#[cfg(test)]
-mod tests;
 mod tokens;
 
 pub use examples::{faults_as_expected, forms_as_expected, lines_as_expected};

@@ -11,8 +11,6 @@ mod places;
 mod reading;
 mod register;
 mod step;
-#[cfg(test)]
-mod tests;
 
 pub use derivation::Derivation;
 pub use lemma::Lemma;

@@ -12,8 +12,6 @@ mod number;
 mod printing;
 mod proof_line;
 mod reader;
-#[cfg(test)]
-mod tests;
 
 pub use dimacs::read_cnf;
 pub use examples::{formulas_as_expected, proofs_as_expected};

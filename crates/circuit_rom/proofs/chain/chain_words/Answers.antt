@@ -1,24 +1,9 @@
-use Rattle.std.proofs.Common.{◌≡◌, reverse, ap, ◌∙◌, sym}
+use Rattle.std.proofs.Common.{reverse, sym, ◌∙◌}
 use Rattle.circuit_meaning.specs.Rom.{chain}
-use Rattle.circuit_rom.specs.declared.link.Link.TheVariants as link
-use Rattle.circuit_rom.specs.Layers.{layered, chain_by}
-use Rattle.circuit_rom.proofs.Walked.{walked, walked-link}
+use Rattle.circuit_rom.proofs.Remembered.{chain-words}
 use Rattle.circuit_rom.proofs.chain.chain_words.Goals as goal
 
-pub loop-known-init : goal.loop-known-init
-loop-known-init c =
+pub returns-in-Chain : goal.returns-in-Chain
+returns-in-Chain c =
     let all = reverse c.args.lines.now in
-    ap (λ known. layered c.args.count known (chain all all c.args.number)) c.in_ok-known.ensures ∙ walked c.args.count (chain all all c.args.number)
-
-pub loop-known-preserved : goal.loop-known-preserved
-loop-known-preserved c =
-    let all = reverse c.args.lines.now in
-    let n = c.args.count in
-    let index = c.in-Write.index in
-    let word = c.in-Write.word in
-    let array = c.in-Write.array in
-    let is : chain all all c.loop-known.at ≡ chain_by all (link.Write index word array) = c.link_of.ensures.chain ∙ ap (chain_by all) c.in-Write.is in
-    ap (λ known. layered n known (chain all all array)) c.put_under.ensures
-    ∙ walked-link all n c.loop-known.known index word array
-    ∙ ap (layered n c.loop-known.known) (sym is)
-    ∙ c.loop-known.invariant
+    chain-words c.args.count c.in-Chain.words (chain all all c.args.number) (sym c.in-Chain.is ∙ c.in_ok-resolve.ensures)

@@ -3,7 +3,7 @@ use Rattle.knox_words.specs.Bits.{Bits}
 use Rattle.circuit_lines.specs.declared.line.Line.{Line}
 use Rattle.circuit_meaning.specs.Ports.{outputs_of}
 use Rattle.circuit_meaning.specs.Circuit.{output_words}
-use Rattle.circuit_logic.proofs.Earlier.{few-lines}
+use Rattle.circuit_rules.proofs.Small.{few-lines}
 use Rattle.knox_circuit.specs.Circuit.{Circuit}
 use Rattle.knox_circuit.proofs.Whole.{outputs-counted}
 use Rattle.knox_circuit.proofs.circuit.Circuit.outputs.Goals as goal

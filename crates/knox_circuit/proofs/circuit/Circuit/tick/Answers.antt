@@ -2,7 +2,7 @@ use Rattle.std.proofs.Common.{◌≡◌, ◌∙◌, sym, ap, length, List}
 use Rattle.knox_words.specs.Bits.{Bits}
 use Rattle.circuit_meaning.specs.Circuit.{cells_of, state_after_tick}
 use Rattle.circuit_meaning.specs.States.{words_in}
-use Rattle.circuit_logic.proofs.Earlier.{few-lines}
+use Rattle.circuit_rules.proofs.Small.{few-lines}
 use Rattle.knox_circuit.specs.Circuit.{Circuit}
 use Rattle.knox_circuit.proofs.Whole.{words-counted, written-whole}
 use Rattle.knox_circuit.proofs.circuit.Circuit.tick.Goals as goal

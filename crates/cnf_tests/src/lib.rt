@@ -1,0 +1,10 @@
+//! Formulas, derivations and the texts of both.
+//! This crate has tests alone, so that no crate that is tested is proved a second time with them.
+#![tactic(auto)]
+
+#[cfg(test)]
+mod derivations;
+#[cfg(test)]
+mod formulas;
+#[cfg(test)]
+mod texts;
