@@ -40,12 +40,18 @@ if python3 "$here/compare.py" changed $ticks fifo.icarus changed.knox > changed.
 fi
 echo "$(head -1 changed.told), as it must"
 
-# An assumption becomes a constraint, which is refused at its line.
-circuit_of assumed -formal
-at=$(grep -n '^[0-9]* constraint ' assumed.btor2 | cut -d: -f1)
-if "$simulate" run assumed.btor2 fifo.inputs > assumed.told 2>&1; then
-  echo "a constraint is accepted"
-  exit 1
-fi
-grep -q "line $at Constraint" assumed.told || { echo "assumed: no 'line $at Constraint' in"; cat assumed.told; exit 1; }
-echo "assumed: line $at Constraint, as it must"
+# What leaves the form of circuits is refused at its line: the first that begins with these words.
+refused() {
+  circuit_of $1 $4
+  at=$(grep -nE "^[0-9]+ $2( |\$)" $1.btor2 | head -1 | cut -d: -f1)
+  if "$simulate" run $1.btor2 fifo.inputs > $1.told 2>&1; then
+    echo "$1 is accepted"
+    exit 1
+  fi
+  grep -q "line $at $3" $1.told || { echo "$1: no 'line $at $3' in"; cat $1.told; exit 1; }
+  echo "$1: line $at $3, as it must"
+}
+
+refused assumed constraint Constraint -formal
+refused wide "sort bitvec 129" Sort
+refused deep "sort array" Sort
