@@ -1,1 +1,5 @@
-pub mod Circuits
+pub mod TokensLemmas
+pub mod NodesLemmas
+pub mod GrammarLemmas
+pub mod ReadingLemmas
+pub mod MeaningLemmas

@@ -1,1 +1,9 @@
+pub mod Tokens
+pub mod Numbers
+pub mod Keywords
 pub mod Grammar
+pub mod Said
+pub mod TextLines
+pub mod Meaning
+pub mod Reading
+pub mod Examples

@@ -1,7 +1,7 @@
 -- Cells of a circuit as fields. The project's own.
 use Rattle.std.specs.Prelude.{ℕ, ◌==◌, ◌&&◌, List, [], ◌∷◌, Option, Some, None, Bool, true, false}
 use Rattle.std.specs.Str.{bytes_eq}
-use Rattle.circuit_meaning.specs.declared.port.Cell.{Cell}
+use Rattle.knox_circuit.specs.declared.port.Cell.{Cell}
 use Rattle.knox_lang.specs.declared.parts.Field.{Field}
 
 -- the field that a cell is: its name, its widths and the place of its first word

@@ -1,7 +1,7 @@
 pub mod Values
 pub mod Ticks
 pub mod Starts
+pub mod Logic
 pub mod Hops
 pub mod Sources
-pub mod Orders
-pub mod Settled
+pub mod Needs

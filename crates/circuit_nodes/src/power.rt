@@ -1,55 +1,127 @@
 //! States that are built one after another, each over those before it.
-ghost use Rattle.std.specs.Prelude.{◌≡◌, ◌≤◌, ◌<◌, ◌+◌, ℕ, length, slice_get, drop, Some, []};
+ghost use Rattle.std.specs.Prelude.{◌≡◌, ◌≤◌, ◌<◌, ◌+◌, ℕ, List, length, slice_get, take, drop, Some, [], if◌then◌else◌};
+ghost use Rattle.knox_words.specs.Bits.{Bits};
+ghost use Rattle.circuit_nodes.specs.declared.node.State.{State};
 ghost use Rattle.circuit_nodes.specs.Values.{given, IsFilled};
-ghost use Rattle.circuit_nodes.specs.Starts.{built, fresh_words, noise_taken, placed, AreWithin, AreSettled};
+ghost use Rattle.circuit_nodes.specs.Starts.{values, first_keep, by_init, fresh_of, words_by, taken_by, placed, with_state, keep_after, built, wanted, AreWithin, AreApart};
 
 use crate::chain::{put_base, put_state, put_writes, source};
-use crate::eval::{fill_more, room_arg};
-use crate::node::{Arg, Node};
-use knox_words::Word;
+use crate::eval::{fill_more, node_at, room_arg};
+use crate::node::{Arg, Next, Node, State};
+use knox_words::{Op1, Word};
 
-/// How a state gets its words: it keeps old ones, it takes noise words, each is the word of an
-/// operand, or they are the first words of an array node.
+/// How a state gets its words: it keeps old ones, it takes noise words, each is the same word or
+/// that of an operand, or they are the first words of an array node.
 #[derive(Clone, Copy, Debug, PartialEq, Eq)]
 pub enum Fresh {
     Kept,
     Noise,
+    Same(Word),
     Word(Arg),
     Array(u32),
 }
 
-/// A state that is to be built: where its words begin, how many it has, how many nodes from the
-/// first on its value may hang on, and how it gets its words.
-#[derive(Clone, Copy, Debug, PartialEq, Eq)]
-pub struct Start {
-    pub first: u32,
-    pub words: u32,
-    pub nodes: u32,
-    pub fresh: Fresh,
+fn state_at(states: &[State], at: usize) -> &State
+    requires { at < length states.now }
+    ensures { slice_get states.now at ≡ Some result.now }
+{
+    &states[at]
 }
 
-fn start_at(starts: &[Start], at: usize) -> Start
-    requires { at < length starts.now }
-    ensures { slice_get starts.now at ≡ Some result }
+fn first_keep(keep: &[bool]) -> bool
+    ensures { result ≡ first_keep keep.now }
 {
-    starts[at]
+    match keep.first() {
+        Some(first) => *first,
+        None => false,
+    }
 }
 
-/// How many noise words a state takes.
-fn noise_taken(start: Start) -> usize
-    ensures { result ≡ noise_taken start }
+/// What is said of the cells behind a state.
+fn keep_after<'a>(state: &State, keep: &'a [bool]) -> &'a [bool]
+    ensures { result.now ≡ keep_after state.now keep.now }
 {
-    match start.fresh {
-        Fresh::Noise => start.words as usize,
+    if state.next.is_none() {
+        return keep;
+    }
+    match keep.split_first() {
+        Some((_, others)) => others,
+        None => keep,
+    }
+}
+
+fn by_init(init: Option<Next>) -> Fresh
+    ensures { result ≡ by_init init }
+{
+    match init {
+        None => Fresh::Noise,
+        Some(Next::Word(arg)) => Fresh::Word(arg),
+        Some(Next::Array { node, .. }) => Fresh::Array(node),
+    }
+}
+
+fn fresh_of(state: &State, keep: &[bool]) -> Fresh
+    ensures { result ≡ fresh_of state.now keep.now }
+{
+    if state.next.is_some() && first_keep(keep) {
+        Fresh::Kept
+    } else {
+        by_init(state.init)
+    }
+}
+
+/// The same way, where a constant stands for an operand: no node has to be evaluated for it.
+#[tactic(auto, using(crate::proofs::StartsLemmas::constant_steps))]
+fn constant_or(nodes: &[Node], fresh: Fresh) -> Fresh
+    ensures words { (s : State) (state old noise : List Bits) → words_by (values nodes.now state) s old noise result ≡ words_by (values nodes.now state) s old noise fresh }
+    ensures taken { (n : ℕ) → taken_by n result ≡ taken_by n fresh }
+{
+    let Fresh::Word(arg) = fresh else {
+        return fresh;
+    };
+    let at = arg.node as usize;
+    if at >= nodes.len() {
+        return fresh;
+    }
+    match node_at(nodes, at) {
+        Node::Const(word) => {
+            if arg.complement {
+                Fresh::Same(knox_words::op1(Op1::Not, *word))
+            } else {
+                Fresh::Same(*word)
+            }
+        }
+        _ => fresh,
+    }
+}
+
+/// How many noise words are taken.
+fn taken_by(words: u32, fresh: &Fresh) -> usize
+    ensures { result ≡ taken_by words fresh.now }
+{
+    match fresh {
+        Fresh::Noise => words as usize,
+        _ => 0,
+    }
+}
+
+/// How many nodes have to be evaluated, of so many.
+fn wanted(nodes: usize, fresh: &Fresh) -> usize
+    ensures { result ≡ wanted nodes fresh.now }
+{
+    match fresh {
+        Fresh::Word(arg) => nodes.min(arg.node as usize + 1),
+        Fresh::Array(node) => nodes.min(*node as usize + 1),
         _ => 0,
     }
 }
 
 /// Stages the words that a state gets, over the states before it.
-#[tactic(auto, using(crate::proofs::Building::stage_steps))]
+#[tactic(auto, using(crate::proofs::StartsLemmas::stage_steps))]
 fn stage_fresh(
     nodes: &[Node],
-    start: Start,
+    which: &State,
+    fresh: &Fresh,
     old: &[Word],
     noise: &[Word],
     state: &[Word],
@@ -58,16 +130,17 @@ fn stage_fresh(
     chain: &mut [u32],
 )
     requires filled { IsFilled (given [] state.now) nodes.now room.now (length nodes.now) }
-    requires staged { length staged.old ≡ start.words }
+    requires staged { length staged.old ≡ which.now.words }
     requires chain { length chain.old ≡ length nodes.now }
-    ensures { staged.new ≡ fresh_words nodes.now start old.now noise.now state.now }
+    ensures { staged.new ≡ words_by (values nodes.now state.now) which.now old.now noise.now fresh.now }
 {
-    match start.fresh {
-        Fresh::Kept => put_state(old, start.first, start.words, staged),
-        Fresh::Noise => put_state(noise, 0, start.words, staged),
-        Fresh::Word(arg) => staged.fill(room_arg(room, nodes.len(), arg)),
+    match fresh {
+        Fresh::Kept => put_state(old, which.first, which.words, which.width, staged),
+        Fresh::Noise => put_state(noise, 0, which.words, which.width, staged),
+        Fresh::Same(word) => staged.fill(*word),
+        Fresh::Word(arg) => staged.fill(room_arg(room, nodes.len(), *arg)),
         Fresh::Array(node) => {
-            let found = source(nodes, room, node, chain);
+            let found = source(nodes, room, *node, chain);
             put_base(state, found.base, staged);
             put_writes(nodes, room, &chain[..found.writes], staged);
         }
@@ -75,10 +148,11 @@ fn stage_fresh(
 }
 
 /// Puts the words that a state gets, over the states before it.
-#[tactic(auto, using(crate::proofs::Building::put_steps))]
+#[tactic(auto, using(crate::proofs::StartsLemmas::put_steps))]
 fn build_state(
     nodes: &[Node],
-    start: Start,
+    which: &State,
+    fresh: &Fresh,
     old: &[Word],
     noise: &[Word],
     state: &mut [Word],
@@ -86,21 +160,21 @@ fn build_state(
     stage: &mut [Word],
     chain: &mut [u32],
 )
-    requires within { start.first + start.words ≤ length state.old }
+    requires within { which.now.first + which.now.words ≤ length state.old }
     requires filled { IsFilled (given [] state.old) nodes.now room.now (length nodes.now) }
     requires stage { length stage.old ≡ length state.old }
     requires chain { length chain.old ≡ length nodes.now }
-    ensures { state.new ≡ placed state.old start.first (fresh_words nodes.now start old.now noise.now state.old) }
+    ensures { state.new ≡ with_state nodes.now which.now fresh.now old.now noise.now state.old }
 {
-    let words = start.words as usize;
-    let first = start.first as usize;
+    let words = which.words as usize;
+    let first = which.first as usize;
     let staged = &mut stage[..words];
-    stage_fresh(nodes, start, old, noise, state, room, staged, chain);
+    stage_fresh(nodes, which, fresh, old, noise, state, room, staged, chain);
     state[first..first + words].copy_from_slice(staged);
 }
 
 /// What is left of a list behind so many of its words.
-fn behind(words: &[Word], count: usize) -> &[Word]
+fn rest_after(words: &[Word], count: usize) -> &[Word]
     ensures { result.now ≡ drop count words.now }
 {
     if count < words.len() {
@@ -110,13 +184,33 @@ fn behind(words: &[Word], count: usize) -> &[Word]
     }
 }
 
-/// Builds states one after another, from the first to the last. `stage` has a word for each word of
-/// the state, `room` a word and `chain` a place for each node; what these three hold doesn't matter.
-/// Each node is evaluated once where the states' numbers of nodes ascend.
-#[tactic(auto, using(crate::proofs::Building::build_steps))]
+/// Fills at least so many places, and tells how many are filled.
+#[tactic(auto, using(crate::proofs::ValuesLemmas::fewer))]
+fn fill_up(nodes: &[Node], state: &[Word], room: &mut [Word], filled: usize, upto: usize) -> usize
+    requires room { length room.old ≡ length nodes.now }
+    requires upto { upto ≤ length nodes.now }
+    requires within { filled ≤ length nodes.now }
+    requires filled { IsFilled (given [] state.now) nodes.now room.old filled }
+    ensures filled { IsFilled (given [] state.now) nodes.now room.new result }
+    ensures upto { upto ≤ result }
+    ensures within { result ≤ length nodes.now }
+{
+    if upto <= filled {
+        return filled;
+    }
+    fill_more(nodes, &[], state, room, filled, upto);
+    upto
+}
+
+/// Builds the states of a power-cycle one after another, from the first to the last. `stage` has a
+/// word for each word of the state, `room` a word and `chain` a place for each node; what these three
+/// hold doesn't matter. Nodes are evaluated as far as an `init` looks, and again behind the node of a
+/// state that got its words since.
+#[tactic(auto, using(crate::proofs::StartsLemmas::build_steps))]
 pub fn build_states(
     nodes: &[Node],
-    starts: &[Start],
+    states: &[State],
+    keep: &[bool],
     old: &[Word],
     noise: &[Word],
     state: &mut [Word],
@@ -124,23 +218,26 @@ pub fn build_states(
     stage: &mut [Word],
     chain: &mut [u32],
 )
-    requires within { AreWithin starts.now (length state.old) }
-    requires settled { AreSettled nodes.now starts.now old.now noise.now state.old }
+    requires within { AreWithin states.now (length state.old) }
+    requires apart { AreApart nodes.now states.now }
     requires room { length room.old ≡ length nodes.now }
     requires stage { length stage.old ≡ length state.old }
     requires chain { length chain.old ≡ length nodes.now }
-    ensures { state.new ≡ built nodes.now starts.now old.now noise.now state.old }
+    ensures { state.new ≡ built nodes.now states.now keep.now old.now noise.now state.old }
 {
     let mut filled = 0;
     let mut rest = noise;
-    for k in 0..starts.len() {
-        let start = start_at(starts, k);
-        let upto = nodes.len().min(start.nodes as usize);
-        fill_more(nodes, &[], state, room, filled, upto);
+    let mut kept = keep;
+    for k in 0..states.len() {
+        let which = state_at(states, k);
+        let fresh = constant_or(nodes, fresh_of(which, kept));
+        let upto = wanted(nodes.len(), &fresh);
+        let reached = fill_up(nodes, state, room, filled, upto);
         let front = &nodes[..upto];
         build_state(
             front,
-            start,
+            which,
+            &fresh,
             old,
             rest,
             state,
@@ -148,7 +245,8 @@ pub fn build_states(
             stage,
             &mut chain[..upto],
         );
-        rest = behind(rest, noise_taken(start));
-        filled = upto;
+        rest = rest_after(rest, taken_by(which.words, &fresh));
+        kept = keep_after(which, kept);
+        filled = reached.min(which.node as usize);
     }
 }

@@ -1,6 +1,6 @@
 //! What each keyword computes in circuits that are read, and which states take noise.
-use crate::running::{factory, gives, joined, mixed, power, read, words};
-use knox_circuit::{Circuit, Noise};
+use crate::running::{factory, gives, joined, mixed, power, read, stand, words};
+use knox_circuit::Noise;
 use std::alloc::{AllocError, Global};
 use std::test::Fail;
 
@@ -23,7 +23,7 @@ const CONSTANTS: &[u8] = b"1 sort bitvec 1
 
 /// What a line of the number 20 says behind the constants, and its word: width and value. The values
 /// are worked by hand on 1011 and 0011.
-const OPERATORS: [(&[u8], u8, u128); 52] = [
+static OPERATORS: [(&[u8], u8, u128); 52] = [
     (b"not 3 10", 4, 4),
     (b"inc 3 10", 4, 12),
     (b"dec 3 10", 4, 10),
@@ -109,21 +109,6 @@ const NOISY: &[u8] = b"1 sort bitvec 1
 9 state 2
 10 next 2 9 9";
 
-/// Whether these states take noise words: the number of each, and the place of its word.
-fn take_noise(circuit: &Circuit, keep: &[bool], states: &[(u32, u32)]) -> Result<bool, AllocError> {
-    let cells = circuit.noise_cells(keep)?;
-    let mut left = cells.as_slice();
-    for state in states {
-        match left.split_first() {
-            Some((cell, others)) if cell.number == state.0 && cell.first == state.1 => {
-                left = others;
-            }
-            _ => return Ok(false),
-        }
-    }
-    Ok(left.is_empty())
-}
-
 fn noise_of(alloc: Global, values: &[u128]) -> Result<Noise, AllocError> {
     Ok(Noise {
         words: words(alloc, 4, values)?,
@@ -134,7 +119,7 @@ fn noise_of(alloc: Global, values: &[u128]) -> Result<Noise, AllocError> {
 fn states_without_init_get_noise(rt: HostRuntime) -> Result<(), Fail> {
     let alloc = rt.alloc();
     let circuit = read(alloc, NOISY)?;
-    assert!(rt; take_noise(&circuit, &[], &[(3, 0), (9, 1)])?);
+    assert!(rt; stand(circuit.noise_cells(&[])?.as_slice(), &[(3, 0), (9, 1)]));
     assert!(rt; !circuit.fits_factory(&noise_of(alloc, &[3])?));
     let state = factory(alloc, &circuit, 4, &[3, 9])?;
     assert!(rt; state.words == mixed(alloc, &[(4, 3), (1, 0), (4, 9)])?);
@@ -147,7 +132,7 @@ fn a_state_that_is_kept_gets_none(rt: HostRuntime) -> Result<(), Fail> {
     let circuit = read(alloc, NOISY)?;
     let state = factory(alloc, &circuit, 4, &[3, 9])?;
     let keep = [true, false, false];
-    assert!(rt; take_noise(&circuit, &keep, &[(9, 0)])?);
+    assert!(rt; stand(circuit.noise_cells(&keep)?.as_slice(), &[(9, 0)]));
     assert!(rt; !circuit.fits_noise(&keep, &noise_of(alloc, &[3, 9])?));
     let after = power(alloc, &circuit, &keep, &state, 4, &[2])?;
     assert!(rt; after.words == mixed(alloc, &[(4, 3), (1, 0), (4, 2)])?);

@@ -1,9 +1,8 @@
 //! The definitions of circuits, computed on a ROM that is a chain of writes with a gap.
 ghost use Rattle.std.specs.Prelude.{◌≡◌, ◌∷◌, ◌++◌, [], None, true, false};
-ghost use Rattle.circuit_meaning.specs.Circuit.{output_words, state_after_tick};
-ghost use Rattle.circuit_meaning.specs.Power.{factory_state, state_after_power};
-ghost use Rattle.circuit_meaning.specs.Rom.{rom_words};
-ghost use Rattle.text_lines.specs.Meaning.{MeansLines};
+ghost use Rattle.knox_circuit.specs.Circuit.{output_words, state_after_tick, factory_state, state_after_power};
+ghost use Rattle.knox_circuit.specs.Rom.{rom_words};
+ghost use Rattle.btor_read.specs.Meaning.{MeansLines};
 ghost use Rattle.circuit_tests.specs.Rom.{rom_text, rom, words, first_noise, second_noise, with_gap, known};
 
 /// The text means these lines.

@@ -1,7 +1,9 @@
 //! Circuits are read from texts and run with words that are given as values.
 use btor_read::read_circuit;
-use knox_circuit::{Circuit, Inputs, Noise, State};
+use circuit_table::{Line, Shape};
+use knox_circuit::{Cell, Circuit, Inputs, Noise, State};
 use knox_words::{Word, Words, word_at, word_or};
+use sqlite_items::Items;
 use std::alloc::{AllocError, Global};
 use std::test::Fail;
 
@@ -13,6 +15,37 @@ pub(crate) fn read(alloc: Global, text: &[u8]) -> Result<Circuit, Fail> {
     match read_circuit(alloc, text) {
         Ok(circuit) => Ok(circuit),
         Err(_) => Err("the text is refused")?,
+    }
+}
+
+/// The first fault of a text with its text line, or how many lines it has.
+pub(crate) fn told(alloc: Global, text: &[u8]) -> Result<String, Fail> {
+    if text.len() > 67108864 {
+        return Err("the text is too long")?;
+    }
+    match read_circuit(alloc, text) {
+        Ok(circuit) => Ok(format!(in alloc; "{} lines", circuit.lines().len())?),
+        Err(fault) => Ok(format!(in alloc; "{} {:?}", fault.line, fault.why)?),
+    }
+}
+
+/// Whether a row of a table holds: what is told, `: `, and the text of which it is told, where `|` ends
+/// a line. A row that is empty or begins with `#` says nothing.
+pub(crate) fn is_told(alloc: Global, row: &str) -> Result<bool, Fail> {
+    let Some((expected, text)) = row.split_once(": ") else {
+        return Ok(row.is_empty() || row.starts_with('#'));
+    };
+    let text = text.replace(alloc, "|", "\n")?;
+    Ok(told(alloc, text.as_bytes())?.as_str() == expected)
+}
+
+/// A line without a symbol, on the text line of its number.
+pub(crate) fn line(alloc: Global, number: u32, shape: Shape) -> Line {
+    Line {
+        number,
+        at: number,
+        shape,
+        symbol: Items::new(alloc),
     }
 }
 
@@ -51,6 +84,27 @@ pub(crate) fn are(found: &Words, width: u8, values: &[u128]) -> bool {
         }
     }
     found.len() == values.len()
+}
+
+/// Whether these are states with these numbers whose first words stand at these places.
+pub(crate) fn stand(cells: &[Cell], places: &[(u32, u32)]) -> bool {
+    let mut left = cells;
+    for place in places {
+        match left.split_first() {
+            Some((cell, others)) if cell.number == place.0 && cell.first == place.1 => {
+                left = others;
+            }
+            _ => return false,
+        }
+    }
+    left.is_empty()
+}
+
+/// Device words of one width.
+pub(crate) fn state_of(alloc: Global, width: u8, values: &[u128]) -> Result<State, AllocError> {
+    Ok(State {
+        words: words(alloc, width, values)?,
+    })
 }
 
 /// The factory state under noise words of one width, which fit.
@@ -117,6 +171,20 @@ pub(crate) fn tick(
     Ok(())
 }
 
+/// The outputs at inputs of these widths and values.
+pub(crate) fn outputs(
+    alloc: Global,
+    circuit: &Circuit,
+    state: &State,
+    pairs: &[(u8, u128)],
+) -> Result<Words, Fail> {
+    let inputs = inputs(alloc, circuit, pairs)?;
+    let mut room = circuit.scratch()?;
+    let mut out = vec![in alloc; word_or(1, 0); circuit.outputs_list().len()]?;
+    circuit.outputs(state, &inputs, &mut room, out.as_mut_slice());
+    Ok(Words::from_vec(out))
+}
+
 /// Whether the outputs at inputs of these widths and values are these words of one width.
 pub(crate) fn gives(
     alloc: Global,
@@ -126,11 +194,7 @@ pub(crate) fn gives(
     width: u8,
     values: &[u128],
 ) -> Result<bool, Fail> {
-    let inputs = inputs(alloc, circuit, pairs)?;
-    let mut room = circuit.scratch()?;
-    let mut out = vec![in alloc; word_or(1, 0); circuit.outputs_list().len()]?;
-    circuit.outputs(state, &inputs, &mut room, out.as_mut_slice());
-    Ok(are(&Words::from_vec(out), width, values))
+    Ok(are(&outputs(alloc, circuit, state, pairs)?, width, values))
 }
 
 /// The ROM word at an index, where the index names a device word.

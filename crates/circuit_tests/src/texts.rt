@@ -1,51 +1,32 @@
 //! Texts of the form in unusual spellings, names of any bytes, and lines that a draft refuses.
-use crate::running::read;
-use circuit_lines::{Line, Shape, Why};
+use crate::running::{is_told, line, read};
+use circuit_table::{Line, Shape, Why};
 use knox_circuit::{Draft, Port};
-use sqlite_items::Items;
-use std::alloc::Global;
 use std::test::Fail;
 
-/// Texts in unusual spellings, and how many lines each has.
-const UNUSUAL: [(&[u8], usize); 20] = [
-    (b"", 0),
-    (b"; a comment alone", 0),
-    (b"\n\n  \t\n", 0),
-    (b"; a comment\n\n  ; and blanks\n", 0),
-    (b"1 sort bitvec 1\r\n2 zero 1\r\n", 2),
-    (b"0001 sort bitvec 08", 1),
-    (b"  1\tsort \t bitvec  3\t", 1),
-    (b"1 sort bitvec 1 a;b", 1),
-    (b"1 sort bitvec 1 ;a b c", 1),
-    (b"1 sort bitvec 1 x ; y", 1),
-    (b"7 sort bitvec 8\n4294967295 constd 7 000255 @7", 2),
-    (
-        b"7 sort bitvec 128\n8 constd 7 -170141183460469231731687303715884105728",
-        2,
-    ),
-    (b"1 sort bitvec 1\n2 sort bitvec 1\n3 zero 1\n4 not 2 3", 4),
-    (b"1 sort bitvec 1\n2 zero 1\n3 state 1\n4 next 1 3 2", 4),
-    // Sorts are compared by what they are, a state may be bare, and its word the first value of others.
-    (b"1 sort bitvec 2\n2 state 1", 2),
-    (
-        b"1 sort bitvec 1\n2 state 1\n3 state 1\n4 init 1 3 -2\n5 next 1 3 3",
-        5,
-    ),
-    (
-        b"1 sort bitvec 1\n2 sort array 1 1\n3 one 1\n4 state 2\n5 init 2 4 3\n6 next 2 4 4",
-        6,
-    ),
-    (b"1 sort bitvec 1\n2 state 1\n3 fair 2\n4 justice 2 2 -2", 4),
-    (
-        b"1 sort bitvec 1\n2 sort bitvec 4\n3 constd 2 -8\n4 constd 1 -0\n5 uext 1 4 0",
-        5,
-    ),
-    // 65,536 words of arrays.
-    (
-        b"1 sort bitvec 12\n2 sort array 1 1\n3 state 2\n4 state 2\n5 state 2\n6 state 2\n7 state 2\n8 state 2\n9 state 2\n10 state 2\n11 state 2\n12 state 2\n13 state 2\n14 state 2\n15 state 2\n16 state 2\n17 state 2\n18 state 2\n",
-        18,
-    ),
-];
+/// Texts in unusual spellings, and how many lines each has. Rows are those of `running::is_told`.
+const UNUSUAL: &str = "
+0 lines: ; a comment alone
+0 lines: ||  \t|
+0 lines: ; a comment||  ; and blanks|
+2 lines: 1 sort bitvec 1\r|2 zero 1\r|
+1 lines: 0001 sort bitvec 08
+1 lines:   1\tsort \t bitvec  3\t
+1 lines: 1 sort bitvec 1 a;b
+1 lines: 1 sort bitvec 1 ;a b c
+1 lines: 1 sort bitvec 1 x ; y
+2 lines: 7 sort bitvec 8|4294967295 constd 7 000255 @7
+2 lines: 7 sort bitvec 128|8 constd 7 -170141183460469231731687303715884105728
+4 lines: 1 sort bitvec 1|2 sort bitvec 1|3 zero 1|4 not 2 3
+4 lines: 1 sort bitvec 1|2 zero 1|3 state 1|4 next 1 3 2
+# Sorts are compared by what they are, a state may be bare, and its word the first value of others.
+2 lines: 1 sort bitvec 2|2 state 1
+5 lines: 1 sort bitvec 1|2 state 1|3 state 1|4 init 1 3 -2|5 next 1 3 3
+6 lines: 1 sort bitvec 1|2 sort array 1 1|3 one 1|4 state 2|5 init 2 4 3|6 next 2 4 4
+4 lines: 1 sort bitvec 1|2 state 1|3 fair 2|4 justice 2 2 -2
+5 lines: 1 sort bitvec 1|2 sort bitvec 4|3 constd 2 -8|4 constd 1 -0|5 uext 1 4 0
+# 65,536 words of arrays.
+18 lines: 1 sort bitvec 12|2 sort array 1 1|3 state 2|4 state 2|5 state 2|6 state 2|7 state 2|8 state 2|9 state 2|10 state 2|11 state 2|12 state 2|13 state 2|14 state 2|15 state 2|16 state 2|17 state 2|18 state 2|";
 
 /// A comment, an empty line, a tab and a carriage return among nine lines.
 const DEVICE: &[u8] = b"1 sort bitvec 1
@@ -75,25 +56,54 @@ fn is_named(port: Option<&Port>, name: &[u8]) -> bool {
     }
 }
 
-fn line(alloc: Global, number: u32, shape: Shape) -> Line {
-    Line {
-        number,
-        at: number,
-        shape,
-        symbol: Items::new(alloc),
-    }
-}
-
 fn is_refused(draft: &mut Draft, line: Line, why: Why) -> bool {
     draft.add(line) == Err(why)
 }
 
 #[test]
 fn unusual_spellings_are_read(rt: HostRuntime) -> Result<(), Fail> {
-    let alloc = rt.alloc();
-    for (text, lines) in &UNUSUAL {
-        assert_eq!(rt; read(alloc, text)?.lines().len(), *lines);
+    for row in UNUSUAL.split('\n') {
+        assert!(rt; is_told(rt.alloc(), row)?, "{row}");
     }
+    Ok(())
+}
+
+/// Whether a line is `justice` over these nodes, with this number, text line and symbol.
+fn is_justice(line: &Line, number: u32, at: u32, nodes: &[i64], symbol: &[u8]) -> bool {
+    match &line.shape {
+        Shape::Justice(count, list) => {
+            line.number == number
+                && line.at == at
+                && *count as usize == nodes.len()
+                && list.as_slice() == nodes
+                && line.symbol.as_slice() == symbol
+        }
+        _ => false,
+    }
+}
+
+/// The last line has zeros before its numbers, tabs, a complement, and a `;` in its symbol.
+const JUSTICE: &[u8] = b"1 sort bitvec 1
+3 one 1
+4 zero 1
+ 007\tjustice 02 -3 04 a;b\t;c d";
+
+#[test]
+fn lines_are_read(rt: HostRuntime) -> Result<(), Fail> {
+    let circuit = read(rt.alloc(), JUSTICE)?;
+    let Some(line) = circuit.lines().get(3) else {
+        return Err("no line")?;
+    };
+    assert!(rt; is_justice(line, 7, 4, &[-3, 4], b"a;b"));
+    Ok(())
+}
+
+#[test]
+fn nothing_is_made_of_no_lines(rt: HostRuntime) -> Result<(), Fail> {
+    let circuit = read(rt.alloc(), b"")?;
+    assert_eq!(rt; circuit.lines().len(), 0);
+    assert_eq!(rt; circuit.outputs_list().len(), 0);
+    assert_eq!(rt; circuit.word_count(), 0);
     Ok(())
 }
 

@@ -133,9 +133,7 @@ pub record EndsFit (ws : List ℕ) (x : (Words × Words) × Oracle) : Type 0 whe
 ends-fit-fits : (c : Circuit) (s : SpecParts) (d : DriverParts) (e : EmuParts) (t : Asking) →
     ((given : Words) → EndsFit (word_widths e.init) (hear Oracle (oracle s) (record { given = given; ok = true }) t)) → FitsAsking (design_of c s d e) t
 unfolding design_of device_of
-ends-fit-fits c s d e (Ended emu copy) h =
-    let none : fit [] copy ≡ true = subst (λ (x : Words). fit [] x ≡ true) (sym (h []).copy) refl in
-    ((h []).emu, record { taken = none; whole = refl })
+ends-fit-fits c s d e (Ended emu copy) h = ((h []).emu, record { taken = refl; whole = sym (h []).copy })
 ends-fit-fits c s d e (Ask o args next) h =
     let call : call_fits s o args ≡ true = stayed-good s (next (next_reply s o args [])) (record { given = []; ok = call_fits s o args }) (h []).ok in
     let there = call-at s.ops o args call in (

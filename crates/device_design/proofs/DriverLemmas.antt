@@ -1,35 +1,22 @@
--- The driver of a device is one of its circuit, and has the specification's operations.
-use Rattle.std.proofs.Common.{◌≡◌, ℕ, suc, ◌<◌, ◌==◌, ◌&&◌, List, [], ◌∷◌, true, refl, ap, sym, ◌∙◌, subst, Option, Some, None, length, slice_get, eq-eqb}
-use Rattle.std.specs.Cmp.Lexicographic.{pointwise, bytes_decides}
+-- The driver of a device has the specification's operations.
+use Rattle.std.proofs.Common.{◌≡◌, ℕ, suc, ◌<◌, List, [], ◌∷◌, true, refl, ap, sym, ◌∙◌, subst, Option, Some, None, length, slice_get}
 use Rattle.knox_words.specs.Lists.{fit}
 use Rattle.knox_theory.proofs.Basics.{and-both}
 use Rattle.knox_circuit.specs.Circuit.{Circuit}
-use Rattle.circuit_meaning.specs.Circuit.{cells_of, state_widths, input_widths, output_widths}
-use Rattle.circuit_meaning.specs.Rom.{rom_words, agree}
+use Rattle.knox_circuit.specs.Cells.{cells_of, state_widths}
+use Rattle.knox_circuit.specs.Rom.{rom_words, agree}
 use Rattle.knox_lang.specs.declared.parts.OpHead.{OpHead}
 use Rattle.knox_lang.specs.declared.parts.SpecParts.{SpecParts}
 use Rattle.knox_lang.specs.declared.parts.DriverParts.{DriverParts}
 use Rattle.knox_lang.specs.declared.parts.EmuParts.{EmuParts}
-use Rattle.knox_lang.specs.Fitting.{fits_driver}
-use Rattle.knox_lang.specs.WellFormed.{word_widths}
 use Rattle.knox_lang.proofs.WidthLemmas.{and_first, and_second}
 use Rattle.driver_machine.specs.Lawful.{HasOp, HasDriver}
-use Rattle.emu_machine.specs.Fits.{same_head, same_heads, outputs, fits_device}
+use Rattle.emu_machine.specs.Fits.{same_head, same_heads, fits_device}
 use Rattle.device_design.specs.Roms.{known_fit}
 use Rattle.device_design.specs.Meaning.{head_args, device_of, design_of}
 use Rattle.device_design.proofs.RomLemmas.{part-fits, fits-widths, fits-agree}
 use Rattle.device_design.proofs.AskingLemmas.{heads-at}
-use Rattle.device_design.proofs.DesignLemmas.{have-widths, idle-fits, there-is-one, fit-together}
-
--- by the widths of the circuit's words
-pub fits-driver : (c : Circuit) (s : SpecParts) (d : DriverParts) (e : EmuParts) → fits_device c s d e ≡ true → fit (word_widths d.idle) d.idle ≡ true →
-    fits_driver (input_widths c.lines) (output_widths c.lines) (length (cells_of c.lines)) d ≡ true
-fits-driver c s d e fits own =
-    let together = fit-together c s d e fits in
-    let outs : pointwise (λ v w. v == w) (output_widths c.lines) d.outs ≡ true = (bytes_decides (output_widths c.lines) d.outs).1 (sym (have-widths d.outs (outputs c) together.outs)) in
-    let keep : length d.keep == length (cells_of c.lines) ≡ true = eq-eqb (length d.keep) (length (cells_of c.lines)) together.keep in
-    and-both (fit (input_widths c.lines) d.idle) (pointwise (λ v w. v == w) (output_widths c.lines) d.outs && length d.keep == length (cells_of c.lines)) (idle-fits c d.idle together.idle own)
-    (and-both (pointwise (λ v w. v == w) (output_widths c.lines) d.outs) (length d.keep == length (cells_of c.lines)) outs keep)
+use Rattle.device_design.proofs.DesignLemmas.{there-is-one, fit-together}
 
 same-length : (as' bs : List OpHead) → same_heads as' bs ≡ true → length as' ≡ length bs
 same-length [] [] h = refl
@@ -52,9 +39,9 @@ unfolding design_of device_of
 has-driver c s d e known fits = record {
   ops = λ o lt. has-op s d o (fit-together c s d e fits).driven lt;
   cells = λ ws f.
-      and-both (fit (state_widths (cells_of c.lines)) ws) (agree (rom_words c.lines) ws) (fits-widths (rom_words c.lines) (state_widths (cells_of c.lines)) ws known f) (fits-agree (rom_words c.lines) (state_widths (cells_of c.lines)) ws known f);
+      and-both (fit (state_widths (cells_of c.lines)) ws) (agree (rom_words c.lines) ws) (fits-widths (rom_words c.lines) (state_widths (cells_of c.lines)) ws known f) (fits-agree (rom_words c.lines) (state_widths (cells_of c.lines)) ws f);
   of_cells = λ ws f.
-      part-fits (rom_words c.lines) (state_widths (cells_of c.lines)) ws (and_first (fit (state_widths (cells_of c.lines)) ws) (agree (rom_words c.lines) ws) f) (and_second (fit (state_widths (cells_of c.lines)) ws) (agree (rom_words c.lines) ws) f);
+      part-fits (rom_words c.lines) (state_widths (cells_of c.lines)) ws known (and_first (fit (state_widths (cells_of c.lines)) ws) (agree (rom_words c.lines) ws) f) (and_second (fit (state_widths (cells_of c.lines)) ws) (agree (rom_words c.lines) ws) f);
   drive = λ o args cells. refl;
   start = λ o args cells. refl;
   move = λ x. refl;

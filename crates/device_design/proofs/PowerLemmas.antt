@@ -1,9 +1,8 @@
 -- An emulator's words fit after power-on, whatever the noise words are.
 use Rattle.std.proofs.Common.{◌≡◌, ℕ, ◌==◌, ◌^◌, List, [], ◌∷◌, ◌++◌, Bool, true, false, refl, ap, sym, ◌∙◌, subst, Option, Some, None, length, replicate, eqb-true, if◌then◌else◌}
 use Rattle.knox_words.specs.Lists.{Words, fit, are_widths}
-use Rattle.circuit_meaning.specs.declared.port.Cell.{Cell}
-use Rattle.circuit_lines.specs.Nodes.{size}
-use Rattle.circuit_meaning.specs.Circuit.{state_widths}
+use Rattle.knox_circuit.specs.declared.port.Cell.{Cell}
+use Rattle.knox_circuit.specs.Cells.{size, state_widths}
 use Rattle.knox_lang.specs.declared.expr.Space.TheVariants.{Own, Local, Output, Noise, Copy}
 use Rattle.knox_lang.specs.declared.parts.Field.{Field}
 use Rattle.knox_lang.specs.declared.parts.EmuParts.{EmuParts}

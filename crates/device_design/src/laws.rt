@@ -1,13 +1,13 @@
 //! Laws of devices, as functions that do nothing.
 ghost use Rattle.std.specs.Prelude.{◌≡◌, List, [], Bool, true, false, length};
 ghost use Rattle.knox_words.specs.Bits.{Bits};
-ghost use Rattle.knox_words.specs.Lists.{fit};
+ghost use Rattle.knox_words.specs.Lists.{fit, pick};
 ghost use Rattle.knox_theory.specs.Device.{answered};
 ghost use Rattle.knox_theory.specs.Lawful.{FitsAsking, IsDesign, IsWireDesign};
 ghost use Rattle.knox_circuit.specs.Circuit.{Circuit as Lines};
-ghost use Rattle.circuit_meaning.specs.Circuit.{cells_of, state_widths, input_widths, output_widths};
-ghost use Rattle.circuit_meaning.specs.Power.{persistent_widths};
-ghost use Rattle.circuit_meaning.specs.Rom.{rom_words};
+ghost use Rattle.knox_circuit.specs.Cells.{cells_of, state_widths, keep_mask};
+ghost use Rattle.knox_circuit.specs.Ports.{input_widths, output_widths};
+ghost use Rattle.knox_circuit.specs.Rom.{rom_words};
 ghost use Rattle.knox_lang.specs.declared.parts.SpecParts.{SpecParts};
 ghost use Rattle.knox_lang.specs.declared.parts.DriverParts.{DriverParts};
 ghost use Rattle.knox_lang.specs.declared.parts.EmuParts.{EmuParts};
@@ -22,7 +22,6 @@ ghost use Rattle.device_design.specs.Roms.{known_fit};
 
 use emu_machine::Device;
 use knox_circuit::Circuit;
-use knox_words::Word;
 
 /// The dialogue of a tick, answered by the specification, ends with the words that the tick leaves:
 /// the specification's fields and the emulator's own.
@@ -37,39 +36,27 @@ pub fn queries_are_of_operations()
     ensures { (c : Lines) (s : SpecParts) (d : DriverParts) (p : EmuParts) (emu ins : List Bits) → spec_fits s ≡ true → emulator_fits p ≡ true → p.copy ≡ false → same_heads p.ops s.ops ≡ true → fit (word_widths p.init) emu ≡ true → fit p.ins ins ≡ true → FitsAsking (design_of c s d p) (tick_dialogue p emu ins) }
 {}
 
-/// Words are words of their own widths.
-#[tactic(auto, using(crate::proofs::DesignLemmas::own_words))]
-fn words_have_widths(words: &[Word])
-    ensures { fit (word_widths words.now) words.now ≡ true }
-{
-    let mut left = words;
-    while let Some((word, more)) = left.split_first() {
-        let _width = word.width();
-        left = more;
-    }
-}
-
 /// What is known of the device words has their widths, one for one, and so has what is known of the
 /// persistent words.
 pub fn rom_words_have_widths(c: &Circuit)
     ensures cells { known_fit (rom_words c.now.lines) (state_widths (cells_of c.now.lines)) ≡ true }
-    ensures kept { (keep : List Bool) → known_fit (persistent_roms c.now.lines keep) (persistent_widths (cells_of c.now.lines) keep) ≡ true }
+    ensures kept { (keep : List Bool) → known_fit (persistent_roms c.now.lines keep) (pick (keep_mask (cells_of c.now.lines) keep) (state_widths (cells_of c.now.lines))) ≡ true }
 {
-    knox_circuit::circuits_have_widths(c);
-    knox_circuit::circuits_keep_widths(c);
-    knox_circuit::circuits_keep_rom_words(c);
+    circuit_laws::circuits_have_widths(c);
+    circuit_laws::circuits_keep_widths(c);
+    circuit_laws::circuits_keep_rom_words(c);
 }
 
 /// Parts that fit each other make a design that is lawful where its host is never attached.
 pub fn parts_make_designs(c: &Circuit)
-    ensures { (s : SpecParts) (d : DriverParts) (e : EmuParts) → spec_fits s ≡ true → emulator_fits e ≡ true → fits_device c.now s d e ≡ true → fit (word_widths d.idle) d.idle ≡ true → IsWireDesign (design_of c.now s d e) }
+    ensures { (s : SpecParts) (d : DriverParts) (e : EmuParts) → spec_fits s ≡ true → emulator_fits e ≡ true → fits_device c.now s d e ≡ true → IsWireDesign (design_of c.now s d e) }
 {
-    knox_circuit::circuits_have_widths(c);
-    knox_circuit::circuits_keep_widths(c);
-    knox_circuit::circuits_keep_rom_words(c);
+    circuit_laws::circuits_have_widths(c);
+    circuit_laws::circuits_keep_widths(c);
+    circuit_laws::circuits_keep_rom_words(c);
     rom_words_have_widths(c);
-    knox_circuit::power_keeps_persistent_words(c);
-    knox_circuit::persistent_words_are_spread(c);
+    circuit_laws::power_keeps_persistent_words(c);
+    circuit_laws::persistent_words_are_spread(c);
 }
 
 /// The driver of a device is one of its circuit, and the device's design has this driver.
@@ -78,7 +65,6 @@ pub fn devices_have_drivers(dev: &Device)
     ensures design { HasDriver dev.now.circuit.lines dev.now.driver (design_of dev.now.circuit dev.now.spec dev.now.driver dev.now.emulator) }
 {
     rom_words_have_widths(&dev.circuit);
-    words_have_widths(dev.driver.idle());
 }
 
 /// The design of a device is lawful.
@@ -87,7 +73,6 @@ pub fn devices_are_designs(dev: &Device)
 {
     dev.spec.is_well_formed();
     dev.emulator.is_well_formed();
-    words_have_widths(dev.driver.idle());
     parts_make_designs(&dev.circuit);
     devices_have_drivers(dev);
     driver_machine::drivers_are_lawful(&dev.circuit, &dev.driver);

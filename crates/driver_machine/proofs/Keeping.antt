@@ -4,10 +4,11 @@ use Rattle.knox_words.specs.Bits.{Bits}
 use Rattle.knox_words.specs.Lists.{Words, fit, fits}
 use Rattle.knox_words.proofs.Lists.{fit-slice_set}
 use Rattle.knox_theory.specs.Design.{Config}
-use Rattle.circuit_lines.specs.declared.line.Line.{Line}
-use Rattle.circuit_meaning.specs.Circuit.{cells_of, state_widths, input_widths, output_widths, output_words, state_after_tick}
-use Rattle.circuit_meaning.specs.Rom.{rom_words, is_known, agree, fits_state}
-use Rattle.circuit_meaning.specs.States.{words_in}
+use Rattle.circuit_table.specs.declared.line.Line.{Line}
+use Rattle.knox_circuit.specs.Circuit.{output_words, state_after_tick}
+use Rattle.knox_circuit.specs.Cells.{cells_of, state_widths, words_in}
+use Rattle.knox_circuit.specs.Ports.{input_widths, output_widths}
+use Rattle.knox_circuit.specs.Rom.{rom_words, is_known, agree, fits_state}
 use Rattle.knox_lang.specs.declared.expr.Space.{Space}
 use Rattle.knox_lang.specs.declared.expr.Space.TheVariants.{Own, Arg, Local, Bound, Input, Output, Noise, Spec, Device, Emu, Copy, Taken}
 use Rattle.knox_lang.specs.declared.expr.Slot.{Slot}

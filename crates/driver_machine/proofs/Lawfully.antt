@@ -6,9 +6,10 @@ use Rattle.knox_words.specs.Lists.{Words, fit, fits, are_widths}
 use Rattle.knox_words.proofs.Lists.{fits-width, fit-slice_set}
 use Rattle.knox_theory.specs.Design.{Config, Design}
 use Rattle.knox_theory.specs.Lawful.{IsDriver}
-use Rattle.circuit_lines.specs.declared.line.Line.{Line}
-use Rattle.circuit_meaning.specs.Circuit.{cells_of, state_widths, input_widths, output_widths}
-use Rattle.circuit_meaning.specs.Rom.{rom_words, fits_state}
+use Rattle.circuit_table.specs.declared.line.Line.{Line}
+use Rattle.knox_circuit.specs.Cells.{cells_of, state_widths}
+use Rattle.knox_circuit.specs.Ports.{input_widths, output_widths}
+use Rattle.knox_circuit.specs.Rom.{rom_words, fits_state}
 use Rattle.knox_lang.specs.declared.parts.OpHead.{OpHead}
 use Rattle.knox_lang.specs.declared.parts.Body.{Body}
 use Rattle.knox_lang.specs.declared.parts.DriverParts.{DriverParts}

@@ -2,7 +2,7 @@
 -- The project's own.
 use Rattle.std.specs.Prelude.{◌≡◌, ℕ, ◌-◌, ◌==◌, List, [], ◌∷◌, ◌++◌, slice_get, slice_set, Option, Some, None, Bool, if◌then◌else◌}
 use Rattle.knox_words.specs.Lists.{Words}
-use Rattle.circuit_meaning.specs.Circuit.{state_after_tick}
+use Rattle.knox_circuit.specs.Circuit.{state_after_tick}
 use Rattle.knox_lang.specs.declared.expr.Stmt.{Stmt, out-Stmt}
 use Rattle.knox_lang.specs.declared.expr.Stmt.TheOpen.{Stmt-F}
 use Rattle.driver_machine.specs.declared.position.Way.TheVariants as way

@@ -1,8 +1,7 @@
 //! The next part of a body.
 ghost use Rattle.std.specs.Prelude.{◌≡◌, ◌≤◌, ◌<◌, ◌+◌, ◌-◌, ◌++◌, ◌^◌, [], ◌∷◌, length, slice_get, Some, IfOk, OnOk, OnErr, List};
 ghost use Rattle.knox_lang.specs.declared.expr.Stmt.{Stmt, out-Stmt};
-ghost use Rattle.circuit_meaning.specs.Circuit.{cells_of};
-ghost use Rattle.circuit_meaning.specs.States.{words_in};
+ghost use Rattle.knox_circuit.specs.Cells.{cells_of, words_in};
 ghost use Rattle.driver_machine.specs.Sight.{setting};
 ghost use Rattle.driver_machine.specs.Begins.{Begins, Moves, Tests, Retests, doing, run_in};
 ghost use Rattle.driver_machine.specs.Place.{bumped, entered, IsAtStatement, IsAtWhile};

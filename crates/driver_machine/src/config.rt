@@ -1,8 +1,7 @@
 //! A driver on its way through a body.
 ghost use Rattle.std.specs.Prelude.{◌≡◌, ◌-◌, ◌≤◌, ◌++◌, [], ◌∷◌, map, length, ℕ, List, Option, Some, None, IfOk, OnOk, OnErr};
 ghost use Rattle.std.specs.Option.{option_copied};
-ghost use Rattle.circuit_meaning.specs.Circuit.{cells_of};
-ghost use Rattle.circuit_meaning.specs.States.{words_in};
+ghost use Rattle.knox_circuit.specs.Cells.{cells_of, words_in};
 ghost use Rattle.knox_lang.specs.Operation.{start_of};
 ghost use Rattle.driver_machine.specs.Drive.{locals_of, result_of, stmts_of};
 ghost use Rattle.driver_machine.specs.Left.{start, step, step_tests, next_tests};
@@ -86,7 +85,7 @@ fn named_fit(wanted: &[(Items<u8>, u8)], words: &[Word]) -> bool
     let mut right = words;
     while let Some((want, more)) = left.split_first() {
         match right.split_first() {
-            Some((word, others)) if word.width() == want.1 => {
+            Some((word, others)) if knox_words::has_width(*word, want.1) => {
                 left = more;
                 right = others;
             }

@@ -4,7 +4,7 @@ ghost use Rattle.std.specs.Prelude.{◌≡◌, [], ◌∷◌, true, false};
 ghost use Rattle.knox_words.specs.Bits.{bits};
 ghost use Rattle.knox_theory.specs.Device.{Replied, OutOfTurns};
 ghost use Rattle.knox_lang.specs.Fitting.{fits_driver};
-ghost use Rattle.circuit_meaning.specs.Circuit.{input_widths, output_widths};
+ghost use Rattle.knox_circuit.specs.Ports.{input_widths, output_widths};
 ghost use Rattle.driver_machine.specs.Drive.{drive};
 ghost use Rattle.driver_machine.specs.Left.{Over, start, ended, reply};
 ghost use Rattle.driver_machine.specs.Moves.{move, move_tests};

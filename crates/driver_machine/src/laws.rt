@@ -4,8 +4,9 @@ ghost use Rattle.knox_words.specs.Bits.{Bits};
 ghost use Rattle.knox_words.specs.Lists.{Words, fit, fits};
 ghost use Rattle.knox_theory.specs.Design.{Config, Design, finish_tests};
 ghost use Rattle.knox_theory.specs.Lawful.{IsDriver};
-ghost use Rattle.circuit_meaning.specs.Circuit.{cells_of, input_widths, state_widths, output_widths};
-ghost use Rattle.circuit_meaning.specs.Rom.{rom_words, fits_state};
+ghost use Rattle.knox_circuit.specs.Cells.{cells_of, state_widths};
+ghost use Rattle.knox_circuit.specs.Ports.{input_widths, output_widths};
+ghost use Rattle.knox_circuit.specs.Rom.{rom_words, fits_state};
 ghost use Rattle.knox_lang.specs.declared.parts.OpHead.{OpHead};
 ghost use Rattle.knox_lang.specs.declared.parts.Body.{Body};
 ghost use Rattle.knox_lang.specs.Fitting.{fits_driver};
@@ -27,10 +28,10 @@ pub fn drivers_are_lawful(c: &Circuit, d: &DriverProgram)
     requires { fits_driver (input_widths c.now.lines) (output_widths c.now.lines) (length (cells_of c.now.lines)) d.now ≡ true }
     ensures { (g : Design Left) → HasDriver c.now.lines d.now g → IsDriver g }
 {
-    knox_circuit::circuits_have_widths(c);
-    knox_circuit::circuits_keep_widths(c);
-    knox_circuit::circuits_keep_rom_words(c);
-    knox_circuit::outputs_have_widths(c);
+    circuit_laws::circuits_have_widths(c);
+    circuit_laws::circuits_keep_widths(c);
+    circuit_laws::circuits_keep_rom_words(c);
+    circuit_laws::outputs_have_widths(c);
     d.is_well_formed();
 }
 
@@ -61,9 +62,9 @@ pub fn places_are_kept(c: &Circuit, d: &DriverProgram)
     ensures word { (op : ℕ) (x : Config Left) (k : ℕ) (w : Bits) → slice_get (rom_words c.now.lines) k ≡ Some None → fits (slice_index (state_widths (cells_of c.now.lines)) k) w ≡ true → fits_config c.now.lines d.now op x ≡ true → fits_config c.now.lines d.now op (record x { cells = slice_set x.cells k w }) ≡ true }
     ensures local_word { (op : ℕ) (x : Config Left) (b : Body) (k : ℕ) (w : Bits) → slice_get d.now.bodies op ≡ Some b → fits (slice_index (local_widths b) k) w ≡ true → fits_config c.now.lines d.now op x ≡ true → fits_config c.now.lines d.now op (record x { locals = slice_set x.locals k w }) ≡ true }
 {
-    knox_circuit::circuits_have_widths(c);
-    knox_circuit::circuits_keep_widths(c);
-    knox_circuit::circuits_keep_rom_words(c);
-    knox_circuit::outputs_have_widths(c);
+    circuit_laws::circuits_have_widths(c);
+    circuit_laws::circuits_keep_widths(c);
+    circuit_laws::circuits_keep_rom_words(c);
+    circuit_laws::outputs_have_widths(c);
     d.is_well_formed();
 }

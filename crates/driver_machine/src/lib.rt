@@ -18,4 +18,4 @@ pub use config::DriverConfig;
 pub use examples::{bodies_move, bodies_reply, drivers_fit, tests_are_met};
 pub use laws::{drivers_are_lawful, moves_are_steps, moves_meet_the_tests, places_are_kept};
 pub use reply::{Moved, Reply};
-pub use whole::{drive, fits_driver, tests_met};
+pub use whole::{drive, tests_met};

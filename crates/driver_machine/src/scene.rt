@@ -1,8 +1,8 @@
 //! The words that a driver's body works on.
 ghost use Rattle.std.specs.Prelude.{◌≡◌, ◌==◌, ◌+◌, [], map, length, vec_len, IfSome, IfOk, OnOk, OnErr};
-ghost use Rattle.circuit_meaning.specs.Circuit.{output_words, state_after_tick, cells_of};
-ghost use Rattle.circuit_meaning.specs.Ports.{outputs_of};
-ghost use Rattle.circuit_meaning.specs.States.{words_in};
+ghost use Rattle.knox_circuit.specs.Circuit.{output_words, state_after_tick};
+ghost use Rattle.knox_circuit.specs.Cells.{cells_of, words_in};
+ghost use Rattle.knox_circuit.specs.Ports.{outputs_of};
 ghost use Rattle.driver_machine.specs.Sight.{setting, value, assigned, sight};
 ghost use Rattle.driver_machine.specs.Begins.{run_in};
 

@@ -1,12 +1,6 @@
-//! What a driver's body does as a whole, and whether a driver is one of a circuit.
-ghost use Rattle.std.specs.Prelude.{◌≡◌, ◌==◌, ◌&&◌, ◌-◌, ◌<◌, ◌++◌, map, length, reverse, IfOk, OnOk, OnErr};
-ghost use Rattle.std.specs.Cmp.Lexicographic.{pointwise};
-ghost use Rattle.knox_words.specs.Lists.{fit};
-ghost use Rattle.circuit_meaning.specs.declared.port.Port.{Port};
-ghost use Rattle.circuit_meaning.specs.Circuit.{cells_of, input_widths, output_widths};
-ghost use Rattle.circuit_meaning.specs.Ports.{outputs_of};
-ghost use Rattle.circuit_meaning.specs.States.{words_in};
-ghost use Rattle.knox_lang.specs.Fitting.{fits_driver};
+//! What a driver's body does as a whole.
+ghost use Rattle.std.specs.Prelude.{◌≡◌, ◌-◌, ◌<◌, ◌++◌, length, IfOk, OnOk, OnErr};
+ghost use Rattle.knox_circuit.specs.Cells.{cells_of, words_in};
 ghost use Rattle.driver_machine.specs.Begins.{listed};
 ghost use Rattle.driver_machine.specs.Drive.{drive};
 ghost use Rattle.driver_machine.specs.Configs.{config_of, moved_of, said, run_at};
@@ -15,7 +9,7 @@ ghost use Rattle.driver_machine.specs.Outcomes.{tests_left, tests_met};
 
 use crate::config::DriverConfig;
 use crate::reply::{Moved, Reply};
-use knox_circuit::{Circuit, Port, State};
+use knox_circuit::{Circuit, State};
 use knox_lang::DriverProgram;
 use knox_words::{Word, Words};
 use sqlite_items::Items;
@@ -116,51 +110,4 @@ fn meet_all(
             Moved::Done(_) => return Ok(tests),
         }
     }
-}
-
-/// Whether words have the widths of ports, one for one.
-fn words_fit(ports: &[Port], words: &[Word]) -> bool
-    ensures { result ≡ fit (map (λ (p : Port). p.width) ports.now) words.now }
-{
-    let mut left = ports;
-    let mut right = words;
-    while let Some((port, more)) = left.split_first() {
-        match right.split_first() {
-            Some((word, others)) if port.width == word.width() => {
-                left = more;
-                right = others;
-            }
-            _ => return false,
-        }
-    }
-    right.is_empty()
-}
-
-/// Whether ports have these widths, one for one.
-fn ports_fit(ports: &[Port], widths: &[u8]) -> bool
-    ensures { result ≡ pointwise (λ v w. v == w) (map (λ (p : Port). p.width) ports.now) widths.now }
-{
-    let mut left = ports;
-    let mut right = widths;
-    while let Some((port, more)) = left.split_first() {
-        match right.split_first() {
-            Some((width, others)) if port.width == *width => {
-                left = more;
-                right = others;
-            }
-            _ => return false,
-        }
-    }
-    right.is_empty()
-}
-
-/// Whether a driver is one of a circuit: it has an idle word for each input, knows the widths of
-/// the outputs, and says of each cell whether it is persistent.
-pub fn fits_driver(c: &Circuit, d: &DriverProgram) -> bool
-    ensures { result ≡ fits_driver (input_widths c.now.lines) (output_widths c.now.lines) (length (cells_of c.now.lines)) d.now }
-{
-    let parts = d.parts();
-    words_fit(c.inputs(), d.idle())
-        && ports_fit(c.outputs_list(), parts.outs.as_slice())
-        && d.keep().len() == c.cells().len()
 }

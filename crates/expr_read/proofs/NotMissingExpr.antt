@@ -1,13 +1,16 @@
 -- No name and no expression is refused as missing.
-use Rattle.std.proofs.Common.{◌≡◌, ℕ, zero, suc, ◌==◌, ◌&&◌, List, [], ◌∷◌, map, codes, sym, subst, refl, Option, Some, None, Result}
+use Rattle.std.proofs.Common.{◌≡◌, ℕ, zero, suc, ◌==◌, List, [], ◌∷◌, map, codes, sym, subst, refl, Option, Some, None, Result}
 use Rattle.std.specs.List.{AllByRecursion}
 use Rattle.knox_text.specs.declared.place.Place.{Place}
 use Rattle.knox_words.specs.Bits.{bits, is_word}
+use Rattle.knox_words.specs.Typing.{op2_typed, ite_typed}
+use Rattle.knox_words.specs.declared.op.Op2.{Op2}
 use Rattle.knox_lang.specs.declared.expr.Space.{Space}
 use Rattle.knox_lang.specs.declared.expr.Space.TheVariants as spaces
 use Rattle.knox_sexpr.specs.declared.tree.Tree.{Tree, out-Tree}
 use Rattle.knox_sexpr.specs.declared.tree.Tree.TheOpen.{Tree-F}
 use Rattle.knox_sexpr.proofs.Meaning.{by_parts}
+use Rattle.expr_read.specs.declared.expression.Typed.{Typed}
 use Rattle.expr_read.specs.declared.expression.Head.{Head}
 use Rattle.expr_read.specs.declared.expression.Head.TheVariants.{Un, Bin, Ite, Bv, Names, Unknown, NoSymbol}
 use Rattle.expr_read.specs.declared.names.Group.{Group}
@@ -16,7 +19,7 @@ use Rattle.expr_read.specs.declared.names.Named.{Named}
 use Rattle.expr_read.specs.declared.names.Seen.{Seen}
 use Rattle.expr_read.specs.Views.{◌>>=◌, place_of, number_of, width_of, is_width, symbol_of, parts_of, is_symbol}
 use Rattle.expr_read.specs.Names.{found, seen_at, seen_of, target_in, target_at, copied, target_level, target, is_declared, pair, local_in, local, locals, and_last}
-use Rattle.expr_read.specs.Expressions.{Part, word, literal, meant, one, two, three, bv_word, bv, named_symbol, named_by_form, applied, head_of, list, part, expr_of, expr_of_width}
+use Rattle.expr_read.specs.Expressions.{Part, word, literal, meant, one, two, three, bin_typed, choice_typed, bv_word, bv, named_symbol, named_by_form, applied, head_of, list, part, expr_of, expr_of_width}
 use Rattle.expr_read.proofs.Parts.{part-Atom, part-Number, part-List}
 use Rattle.expr_read.proofs.NotMissing.{NotMissing, and-then, either, all-map, in-each, in-number, in-symbol, in-parts, in-width}
 
@@ -99,7 +102,7 @@ in-two : (at : Place) (ps : List Part) → AllByRecursion Good ps → (names : L
 in-two at [] all names = refl
 in-two at (a ∷ []) all names = refl
 in-two at (a ∷ b ∷ []) all names =
-    and-then (a.reading names) _ (all.0 names) (λ x. and-then (b.reading names) _ (all.1.0 names) (λ y. either (x.width == y.width) _ _ tt refl))
+    and-then (a.reading names) _ (all.0 names) (λ x. and-then (b.reading names) _ (all.1.0 names) (λ y. tt))
 in-two at (a ∷ b ∷ c ∷ ps) all names = refl
 
 in-three : (at : Place) (ps : List Part) → AllByRecursion Good ps → (names : List Named) → NotMissing (three at ps names)
@@ -107,8 +110,16 @@ in-three at [] all names = refl
 in-three at (a ∷ []) all names = refl
 in-three at (a ∷ b ∷ []) all names = refl
 in-three at (c ∷ a ∷ b ∷ []) all names =
-    and-then (c.reading names) _ (all.0 names) (λ z. and-then (a.reading names) _ (all.1.0 names) (λ x. and-then (b.reading names) _ (all.1.1.0 names) (λ y. either (z.width == 1 && x.width == y.width) _ _ tt refl)))
+    and-then (c.reading names) _ (all.0 names) (λ z. and-then (a.reading names) _ (all.1.0 names) (λ x. and-then (b.reading names) _ (all.1.1.0 names) (λ y. tt)))
 in-three at (a ∷ b ∷ c ∷ d ∷ ps) all names = refl
+
+in-bin : (at : Place) (o : Op2) (p : Typed × Typed) (width : Option ℕ) → NotMissing (bin_typed at o p width)
+in-bin at o p None = refl
+in-bin at o p (Some w) = tt
+
+in-choice : (at : Place) (p : Typed × Typed × Typed) (width : Option ℕ) → NotMissing (choice_typed at p width)
+in-choice at p None = refl
+in-choice at p (Some w) = tt
 
 bits-word : (w n : Tree) → NotMissing (bv_word w n)
 bits-word w n = and-then (width_of w) _ (in-width w) (λ width. and-then (number_of n) _ (in-number n) (λ value. in-word (place_of n) width value))
@@ -129,8 +140,8 @@ by-form at group (a ∷ b ∷ ps) names = refl
 
 in-applied : (at head_at : Place) (head : Head) (ps : List Part) → AllByRecursion Good ps → (names : List Named) → NotMissing (applied at head_at head ps names)
 in-applied at head_at (Un o) ps all names = and-then (one at ps names) _ (in-one at ps all names) (λ x. tt)
-in-applied at head_at (Bin o) ps all names = and-then (two at ps names) _ (in-two at ps all names) (λ p. tt)
-in-applied at head_at Ite ps all names = and-then (three at ps names) _ (in-three at ps all names) (λ p. tt)
+in-applied at head_at (Bin o) ps all names = and-then (two at ps names) _ (in-two at ps all names) (λ p. in-bin at o p (op2_typed o p.0.width p.1.width))
+in-applied at head_at Ite ps all names = and-then (three at ps names) _ (in-three at ps all names) (λ p. in-choice at p (ite_typed p.0.width p.1.width p.2.width))
 in-applied at head_at Bv ps all names = in-bv at ps
 in-applied at head_at (Names group) ps all names = by-form at group ps names
 in-applied at head_at Unknown ps all names = refl

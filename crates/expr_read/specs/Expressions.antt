@@ -1,12 +1,15 @@
 -- Which expression a tree means, with its width and its cost, or its first fault.
-use Rattle.std.specs.Prelude.{ℕ, zero, suc, ◌+◌, ◌-◌, ◌^◌, ◌==◌, ◌&&◌, min, if◌then◌else◌, List, [], ◌∷◌, codes, Option, Some, None, Result, Ok}
+use Rattle.std.specs.Prelude.{ℕ, zero, suc, ◌+◌, ◌-◌, ◌^◌, ◌==◌, min, if◌then◌else◌, List, [], ◌∷◌, codes, Option, Some, None, Result, Ok}
 use Rattle.std.specs.Str.{bytes_eq}
 use Rattle.knox_text.specs.declared.place.Place.{Place}
 use Rattle.knox_words.specs.Bits.{bits, is_word}
+use Rattle.knox_words.specs.Ops.{op1_width}
+use Rattle.knox_words.specs.Typing.{op2_typed, ite_typed}
 use Rattle.knox_words.specs.declared.op.Op1.{Op1}
 use Rattle.knox_words.specs.declared.op.Op1.TheVariants as un
 use Rattle.knox_words.specs.declared.op.Op2.{Op2}
 use Rattle.knox_words.specs.declared.op.Op2.TheVariants as bin
+use Rattle.operator_names.specs.Names.{op1_named, op2_named}
 use Rattle.knox_lang.specs.declared.expr.Expr.{Expr}
 use Rattle.knox_lang.specs.declared.expr.Expr.TheVariants as exprs
 use Rattle.knox_sexpr.specs.declared.tree.Tree.{Tree, fold-Tree, roll-Tree, map-Tree, out-Tree}
@@ -57,57 +60,51 @@ named at group name names = meant at (found group name None names)
 
 -- ---- operators
 
--- the width of an operator's result
-abbrev pub un_width : Op1 → ℕ → ℕ
-un_width un.Redor w = 1
-un_width o w = w
-
-abbrev pub bin_width : Op2 → ℕ → ℕ
-bin_width bin.Eq w = 1
-bin_width o w = w
-
 abbrev pub un_of : Op1 → Typed → Typed
-un_of o x = typed (exprs.Un o x.expr) (un_width o x.width) (dearer x.cost 1)
+un_of o x = typed (exprs.Un o x.expr) (op1_width o x.width) (dearer x.cost 1)
 
-abbrev pub bin_of : Op2 → Typed × Typed → Typed
-bin_of o p = typed (exprs.Bin o p.0.expr p.1.expr) (bin_width o p.0.width) (dearer (dearer p.0.cost p.1.cost) 1)
+-- an operator on two operands, where it takes words of their widths; its own width is the last
+abbrev pub bin_typed : Place → Op2 → Typed × Typed → Option ℕ → Result Typed LangFault
+bin_typed at o p None = fails at Width
+bin_typed at o p (Some w) = Ok (typed (exprs.Bin o p.0.expr p.1.expr) w (dearer (dearer p.0.cost p.1.cost) 1))
 
-abbrev pub ite_of : Typed × Typed × Typed → Typed
-ite_of p = typed (exprs.Ite p.0.expr p.1.expr p.2.expr) p.1.width (dearer (dearer (dearer p.1.cost p.2.cost) p.0.cost) 1)
+abbrev pub bin_of : Place → Op2 → Typed × Typed → Result Typed LangFault
+bin_of at o p = bin_typed at o p (op2_typed o p.0.width p.1.width)
+
+-- a choice between two operands, where their widths allow one; its own width is the last
+abbrev pub choice_typed : Place → Typed × Typed × Typed → Option ℕ → Result Typed LangFault
+choice_typed at p None = fails at Width
+choice_typed at p (Some w) = Ok (typed (exprs.Ite p.0.expr p.1.expr p.2.expr) w (dearer (dearer (dearer p.1.cost p.2.cost) p.0.cost) 1))
+
+abbrev pub ite_of : Place → Typed × Typed × Typed → Result Typed LangFault
+ite_of at p = choice_typed at p (ite_typed p.0.width p.1.width p.2.width)
 
 -- one operand
 abbrev pub one : Place → List Part → Reading
 one at (a ∷ []) names = a.reading names
 one at parts names = fails at Arity
 
--- the second of two operands has the first's width: what `two` does behind the first
-abbrev pub second : Place → Typed → Result Typed LangFault → Result (Typed × Typed) LangFault
-second at x read = do
-  y ← read
-  if x.width == y.width then Ok (x, y) else fails at Width
+-- an operand behind another: what `two` does behind the first
+abbrev pub second : Typed → Result Typed LangFault → Result (Typed × Typed) LangFault
+second x read = read >>= λ y. Ok (x, y)
 
--- two operands of one width
+-- two operands
 abbrev pub two : Place → List Part → List Named → Result (Typed × Typed) LangFault
 two at (a ∷ b ∷ []) names = do
   x ← a.reading names
-  y ← b.reading names
-  if x.width == y.width then Ok (x, y) else fails at Width
+  second x (b.reading names)
 two at parts names = fails at Arity
 
--- the last of three operands has the width of the one before, and the first is one bit: what `three`
--- does behind the second
-abbrev pub third : Place → Typed → Typed → Result Typed LangFault → Result (Typed × Typed × Typed) LangFault
-third at z x read = do
-  y ← read
-  if z.width == 1 && x.width == y.width then Ok (z, x, y) else fails at Width
+-- an operand behind two others: what `three` does behind the second
+abbrev pub third : Typed → Typed → Result Typed LangFault → Result (Typed × Typed × Typed) LangFault
+third z x read = read >>= λ y. Ok (z, x, y)
 
--- a condition and two operands of one width
+-- three operands
 abbrev pub three : Place → List Part → List Named → Result (Typed × Typed × Typed) LangFault
 three at (c ∷ a ∷ b ∷ []) names = do
   z ← c.reading names
   x ← a.reading names
-  y ← b.reading names
-  if z.width == 1 && x.width == y.width then Ok (z, x, y) else fails at Width
+  third z x (b.reading names)
 three at parts names = fails at Arity
 
 -- ---- forms
@@ -131,23 +128,37 @@ abbrev pub named_by_form : Place → Group → List Part → Reading
 named_by_form at group (x ∷ []) names = named_symbol group x.tree names
 named_by_form at group parts names = fails at Form
 
--- the forms that name words: what `keyword` says of a name that is no operator
+-- the operators that expressions have so far
+abbrev pub un_head : Op1 → Head
+un_head un.Not = Un un.Not
+un_head un.Redor = Un un.Redor
+un_head o = Unknown
+
+abbrev pub bin_head : Op2 → Head
+bin_head bin.Eq = Bin bin.Eq
+bin_head bin.And = Bin bin.And
+bin_head o = Unknown
+
+-- the forms that are no operators on words
 abbrev pub form : List ℕ → Head
 form name =
-    if bytes_eq name (codes "in") then Names Input else if bytes_eq name (codes "out") then Names Output
-    else if bytes_eq name (codes "noise") then Names Noise else if bytes_eq name (codes "s") then Names Spec
-    else if bytes_eq name (codes "c") then Names Device else if bytes_eq name (codes "e") then Names Emu
-    else if bytes_eq name (codes "k") then Names Copy else Unknown
-
-abbrev pub keyword : List ℕ → Head
-keyword name =
-    if bytes_eq name (codes "not") then Un un.Not else if bytes_eq name (codes "redor") then Un un.Redor
-    else if bytes_eq name (codes "eq") then Bin bin.Eq else if bytes_eq name (codes "and") then Bin bin.And
-    else if bytes_eq name (codes "ite") then Ite else if bytes_eq name (codes "bv") then Bv
+    if bytes_eq name (codes "ite") then Ite else if bytes_eq name (codes "bv") then Bv
     else if bytes_eq name (codes "in") then Names Input else if bytes_eq name (codes "out") then Names Output
     else if bytes_eq name (codes "noise") then Names Noise else if bytes_eq name (codes "s") then Names Spec
     else if bytes_eq name (codes "c") then Names Device else if bytes_eq name (codes "e") then Names Emu
     else if bytes_eq name (codes "k") then Names Copy else Unknown
+
+-- an operator, or else another head
+abbrev pub un_or : Option Op1 → Head → Head
+un_or None h = h
+un_or (Some o) h = un_head o
+
+abbrev pub bin_or : Option Op2 → Head → Head
+bin_or None h = h
+bin_or (Some o) h = bin_head o
+
+abbrev pub keyword : List ℕ → Head
+keyword name = un_or (op1_named name) (bin_or (op2_named name) (form name))
 
 abbrev pub head_in : Tree-F Tree → Head
 head_in (Tree-F.Atom at name) = keyword name
@@ -160,8 +171,8 @@ head_of t = head_in (out-Tree t)
 -- what a head, whose place is the second, gives of the parts behind it
 abbrev pub applied : Place → Place → Head → List Part → Reading
 applied at head_at (Un o) parts names = one at parts names >>= λ x. Ok (un_of o x)
-applied at head_at (Bin o) parts names = two at parts names >>= λ p. Ok (bin_of o p)
-applied at head_at Ite parts names = three at parts names >>= λ p. Ok (ite_of p)
+applied at head_at (Bin o) parts names = two at parts names >>= λ p. bin_of at o p
+applied at head_at Ite parts names = three at parts names >>= λ p. ite_of at p
 applied at head_at Bv parts names = bv at parts
 applied at head_at (Names group) parts names = named_by_form at group parts names
 applied at head_at Unknown parts names = fails head_at UnknownName

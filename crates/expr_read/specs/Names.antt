@@ -6,8 +6,8 @@ use Rattle.std.specs.Fmt.{decimal}
 use Rattle.knox_text.specs.declared.place.Place.{Place}
 use Rattle.knox_sexpr.specs.declared.tree.Tree.{Tree, out-Tree}
 use Rattle.knox_sexpr.specs.declared.tree.Tree.TheOpen.{Tree-F}
-use Rattle.circuit_meaning.specs.declared.port.Port.{Port}
-use Rattle.circuit_meaning.specs.declared.port.Cell.{Cell}
+use Rattle.knox_circuit.specs.declared.port.Port.{Port}
+use Rattle.knox_circuit.specs.declared.port.Cell.{Cell}
 use Rattle.knox_lang.specs.declared.expr.Slot.{Slot}
 use Rattle.knox_lang.specs.declared.parts.Field.{Field}
 use Rattle.knox_lang.specs.declared.parts.OpHead.{OpHead}

@@ -4,7 +4,7 @@ ghost use Rattle.knox_lang.specs.declared.expr.Expr.TheVariants as exprs;
 ghost use Rattle.expr_read.specs.declared.faults.LangFault.{LangFault};
 ghost use Rattle.expr_read.specs.declared.expression.Typed.{Typed};
 ghost use Rattle.expr_read.specs.Views.{Gives};
-ghost use Rattle.expr_read.specs.Expressions.{Part, part, dearer, word, literal, named, un_width, bin_width, un_of, bin_of, ite_of, one, second, two, third, three, bv_word, bv, named_symbol, named_by_form, form, keyword, head_of, applied, list, expr_of, expr_of_width};
+ghost use Rattle.expr_read.specs.Expressions.{Part, part, dearer, word, literal, named, un_of, bin_of, ite_of, one, second, two, third, three, bv_word, bv, named_symbol, named_by_form, un_head, bin_head, form, keyword, head_of, applied, list, expr_of, expr_of_width};
 
 use crate::faults::{LangFault, LangWhy, fault};
 use crate::names::{Group, Named, find};
@@ -12,7 +12,8 @@ use crate::views::{is_width, number_of, place_of, symbol_of, width_of};
 use knox_lang::Expr;
 use knox_sexpr::Tree;
 use knox_text::Place;
-use knox_words::{Op1, Op2, Word};
+use knox_words::{Op1, Op2, Word, ite_typed, op1_width, op2_typed};
+use operator_names::{op1_named, op2_named};
 use sqlite_items::Boxed;
 use std::alloc::Global;
 
@@ -42,28 +43,44 @@ enum Head {
 fn keyword(name: &[u8]) -> Head
     ensures { result ≡ keyword name.now }
 {
-    if name == b"not".as_slice() {
-        Head::Un(Op1::Not)
-    } else if name == b"redor".as_slice() {
-        Head::Un(Op1::Redor)
-    } else if name == b"eq".as_slice() {
-        Head::Bin(Op2::Eq)
-    } else if name == b"and".as_slice() {
-        Head::Bin(Op2::And)
-    } else if name == b"ite".as_slice() {
-        Head::Ite
-    } else if name == b"bv".as_slice() {
-        Head::Bv
-    } else {
-        form(name)
+    if let Some(op) = op1_named(name) {
+        return un_head(op);
+    }
+    if let Some(op) = op2_named(name) {
+        return bin_head(op);
+    }
+    form(name)
+}
+
+/// An operator with one operand, where expressions have it so far.
+fn un_head(op: Op1) -> Head
+    ensures { result ≡ un_head op }
+{
+    match op {
+        Op1::Not | Op1::Redor => Head::Un(op),
+        _ => Head::Unknown,
     }
 }
 
-/// The form that names a word of the circuit or of the languages.
+/// An operator with two operands, where expressions have it so far.
+fn bin_head(op: Op2) -> Head
+    ensures { result ≡ bin_head op }
+{
+    match op {
+        Op2::Eq | Op2::And => Head::Bin(op),
+        _ => Head::Unknown,
+    }
+}
+
+/// The form that is no operator on words.
 fn form(name: &[u8]) -> Head
     ensures { result ≡ form name.now }
 {
-    if name == b"in".as_slice() {
+    if name == b"ite".as_slice() {
+        Head::Ite
+    } else if name == b"bv".as_slice() {
+        Head::Bv
+    } else if name == b"in".as_slice() {
         Head::Names(Group::Input)
     } else if name == b"out".as_slice() {
         Head::Names(Group::Output)
@@ -173,39 +190,23 @@ fn named_by_form(
     }
 }
 
-/// The width of an operator's result.
-fn un_width(op: Op1, width: u8) -> u8
-    ensures { result ≡ un_width op width }
-{
-    match op {
-        Op1::Redor => 1,
-        _ => width,
-    }
-}
-
-fn bin_width(op: Op2, width: u8) -> u8
-    ensures { result ≡ bin_width op width }
-{
-    match op {
-        Op2::Eq => 1,
-        _ => width,
-    }
-}
-
 fn un_of(alloc: Global, op: Op1, x: Typed) -> Result<Typed, LangFault>
     ensures { Gives result (Ok (un_of op x)) }
 {
     Ok(Typed {
-        width: un_width(op, x.width),
+        width: op1_width(op, x.width),
         cost: x.cost.saturating_add(1),
         expr: Expr::Un(op, Boxed::new(alloc, x.expr)?),
     })
 }
 
-fn bin_of(alloc: Global, op: Op2, x: Typed, y: Typed) -> Result<Typed, LangFault>
-    ensures { Gives result (Ok (bin_of op (x, y))) }
+/// An operator on two operands, where it takes words of their widths.
+fn bin_of(alloc: Global, at: Place, op: Op2, x: Typed, y: Typed) -> Result<Typed, LangFault>
+    ensures { Gives result (bin_of at op (x, y)) }
 {
-    let width = bin_width(op, x.width);
+    let Some(width) = op2_typed(op, x.width, y.width) else {
+        return Err(fault(at, LangWhy::Width));
+    };
     let cost = x.cost.saturating_add(y.cost).saturating_add(1);
     let (x, y) = boxed(alloc, x.expr, y.expr)?;
     Ok(Typed {
@@ -215,10 +216,13 @@ fn bin_of(alloc: Global, op: Op2, x: Typed, y: Typed) -> Result<Typed, LangFault
     })
 }
 
-fn ite_of(alloc: Global, c: Typed, x: Typed, y: Typed) -> Result<Typed, LangFault>
-    ensures { Gives result (Ok (ite_of (c, x, y))) }
+/// A choice by the first of three operands between the others, where their widths allow one.
+fn ite_of(alloc: Global, at: Place, c: Typed, x: Typed, y: Typed) -> Result<Typed, LangFault>
+    ensures { Gives result (ite_of at (c, x, y)) }
 {
-    let width = x.width;
+    let Some(width) = ite_typed(c.width, x.width, y.width) else {
+        return Err(fault(at, LangWhy::Width));
+    };
     let parts = x.cost.saturating_add(y.cost);
     let cost = parts.saturating_add(c.cost).saturating_add(1);
     let expr = ite(alloc, c.expr, x.expr, y.expr)?;
@@ -283,11 +287,11 @@ fn applied(
         }
         Head::Bin(op) => {
             let (x, y) = two(alloc, at, parts, names)?;
-            bin_of(alloc, op, x, y)
+            bin_of(alloc, at, op, x, y)
         }
         Head::Ite => {
             let (c, x, y) = three(alloc, at, parts, names)?;
-            ite_of(alloc, c, x, y)
+            ite_of(alloc, at, c, x, y)
         }
         Head::Bv => bv(at, parts),
         Head::Names(group) => named_by_form(at, group, parts, names),
@@ -306,7 +310,7 @@ fn one(alloc: Global, at: Place, parts: &[Tree], names: &[Named]) -> Result<Type
     }
 }
 
-/// Two operands of one width.
+/// Two operands.
 #[cycle(expressions)]
 fn two(
     alloc: Global,
@@ -320,29 +324,21 @@ fn two(
         [x, y] => {
             let x = expr(alloc, x, names)?;
             let y = expr(alloc, y, names);
-            of_one_width(at, x, y)
+            second(x, y)
         }
         _ => Err(fault(at, LangWhy::Arity)),
     }
 }
 
-/// Two operands, where the second was read and they have one width.
-fn of_one_width(
-    at: Place,
-    x: Typed,
-    y: Result<Typed, LangFault>,
-) -> Result<(Typed, Typed), LangFault>
-    ensures { (read : Result Typed LangFault) → Gives y read → Gives result (second at x read) }
+/// Two operands, where the second was read.
+fn second(x: Typed, y: Result<Typed, LangFault>) -> Result<(Typed, Typed), LangFault>
+    ensures { (read : Result Typed LangFault) → Gives y read → Gives result (second x read) }
 {
     let y = y?;
-    if x.width == y.width {
-        Ok((x, y))
-    } else {
-        Err(fault(at, LangWhy::Width))
-    }
+    Ok((x, y))
 }
 
-/// A condition, and two operands of one width.
+/// Three operands.
 #[cycle(expressions)]
 fn three(
     alloc: Global,
@@ -357,29 +353,22 @@ fn three(
             let c = expr(alloc, c, names)?;
             let x = expr(alloc, x, names)?;
             let y = expr(alloc, y, names);
-            under_condition(at, c, x, y)
+            third(c, x, y)
         }
         _ => Err(fault(at, LangWhy::Arity)),
     }
 }
 
-/// A condition and two operands, where the last was read, the first is one bit, and the others have
-/// one width.
-fn under_condition(
-    at: Place,
+/// Three operands, where the last was read.
+fn third(
     c: Typed,
     x: Typed,
     y: Result<Typed, LangFault>,
 ) -> Result<(Typed, Typed, Typed), LangFault>
-    ensures { (read : Result Typed LangFault) → Gives y read → Gives result (third at c x read) }
+    ensures { (read : Result Typed LangFault) → Gives y read → Gives result (third c x read) }
 {
-    let is_bit = c.width == 1;
-    let (x, y) = of_one_width(at, x, y)?;
-    if is_bit {
-        Ok((c, x, y))
-    } else {
-        Err(fault(at, LangWhy::Width))
-    }
+    let y = y?;
+    Ok((c, x, y))
 }
 
 /// An expression of a width that is wanted.

@@ -3,8 +3,8 @@ ghost use Rattle.std.specs.Prelude.{◌≡◌, IfOk};
 ghost use Rattle.knox.specs.TextLines.{letter_shown, circuit_shown, at_line, lang_shown, script_shown, why_shown, text_line};
 
 use crate::check_saying::{of_text, placed};
-use circuit_lines::Why;
 use expr_read::LangWhy;
+use knox_circuit::Why;
 use knox_verify::{Letter, TextWhy};
 use script_read::ScriptWhy;
 use std::alloc::{AllocError, Global};

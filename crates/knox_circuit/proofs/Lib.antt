@@ -1,1 +1,9 @@
-pub mod Whole
+pub mod RowsLemmas
+pub mod PartsLemmas
+pub mod CellsLemmas
+pub mod StatesLemmas
+pub mod RomLemmas
+pub mod NamesLemmas
+pub mod TablesLemmas
+pub mod EvaluationLemmas
+pub mod MadeLemmas

@@ -1,1 +1,9 @@
 pub mod Circuit
+pub mod Names
+pub mod Links
+pub mod Taken
+pub mod Ports
+pub mod Cells
+pub mod Parts
+pub mod Rom
+pub mod Made

@@ -2,9 +2,10 @@
 -- the widths that are wanted. The project's own, as are its limits: 4,096 turns of `for` and
 -- `all`, 1,000,000 of `while`, and 256 variables bound inside one another, since no text nests
 -- deeper. An array has as many words, of one width, as its index can name: 2 to 4,096.
-use Rattle.std.specs.Prelude.{◌≡◌, ◌<◌, ℕ, zero, suc, ◌+◌, ◌-◌, ◌^◌, ◌==◌, ◌&&◌, nat_lt, nat_le, List, [], ◌∷◌, ◌++◌, map, length, slice_get, drop, Option, Some, None, Bool, true, false, if◌then◌else◌}
+use Rattle.std.specs.Prelude.{◌≡◌, ◌<◌, ℕ, zero, suc, ◌^◌, ◌==◌, ◌&&◌, nat_lt, nat_le, List, [], ◌∷◌, ◌++◌, map, length, slice_get, drop, Option, Some, None, Bool, true, false, if◌then◌else◌}
 use Rattle.knox_words.specs.Bits.{Bits, is_word}
-use Rattle.knox_words.specs.Ops.{op1_width, op2_width, fits2_of}
+use Rattle.knox_words.specs.Ops.{op1_width}
+use Rattle.knox_words.specs.Typing.{op2_typed, slice_typed, extended, ite_typed}
 use Rattle.knox_words.specs.declared.op.Op1.{Op1}
 use Rattle.knox_words.specs.declared.op.Op2.{Op2}
 use Rattle.knox_words.specs.Lists.{are_widths, fit, fits}
@@ -59,20 +60,20 @@ un_width o None = None
 un_width o (Some w) = Some (op1_width o w)
 
 abbrev pub bin_width : Op2 → Option ℕ → Option ℕ → Option ℕ
-bin_width o (Some v) (Some w) = if fits2_of o v w then Some (op2_width o v w) else None
+bin_width o (Some v) (Some w) = op2_typed o v w
 bin_width o _ _ = None
 
 -- the width of an extension by n bits
 abbrev pub longer : ℕ → Option ℕ → Option ℕ
 longer n None = None
-longer n (Some w) = if nat_le (w + n) 128 then Some (w + n) else None
+longer n (Some w) = extended w n
 
 abbrev pub slice_width : ℕ → ℕ → Option ℕ → Option ℕ
 slice_width high low None = None
-slice_width high low (Some w) = if nat_le low high && nat_lt high w then Some (high - low + 1) else None
+slice_width high low (Some w) = slice_typed w high low
 
 abbrev pub ite_width : Option ℕ → Option ℕ → Option ℕ → Option ℕ
-ite_width (Some c) (Some v) (Some w) = if c == 1 && v == w then Some v else None
+ite_width (Some c) (Some v) (Some w) = ite_typed c v w
 ite_width _ _ _ = None
 
 -- under one more bound variable, of width w

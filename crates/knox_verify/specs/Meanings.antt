@@ -9,7 +9,7 @@ use Rattle.knox_circuit.specs.Circuit.{Circuit}
 use Rattle.knox_lang.specs.declared.parts.SpecParts.{SpecParts}
 use Rattle.knox_lang.specs.declared.parts.DriverParts.{DriverParts}
 use Rattle.knox_lang.specs.declared.parts.EmuParts.{EmuParts}
-use Rattle.btor_read.specs.Grammar.{IsCircuit}
+use Rattle.btor_read.specs.Meaning.{IsCircuit}
 use Rattle.expr_read.specs.declared.faults.LangFault.{LangFault}
 use Rattle.expr_read.specs.declared.faults.LangWhy.TheVariants as lang
 use Rattle.script_read.specs.declared.fault.ScriptFault.{ScriptFault}

@@ -10,8 +10,8 @@ use Rattle.knox_verify.specs.declared.verdict.TextWhy.TheVariants.{TooLong, Circ
 use Rattle.knox_verify.specs.declared.verdict.VerifyFault.{VerifyFault}
 use Rattle.knox_verify.specs.declared.verdict.VerifyFault.TheVariants.{Text, NotYet, Memory}
 use Rattle.knox_theory.specs.Closed.{Closed}
-use Rattle.circuit_lines.specs.declared.fault.BtorFault.{BtorFault}
-use Rattle.text_lines.specs.Meaning.{FaultsAt}
+use Rattle.circuit_table.specs.declared.fault.BtorFault.{BtorFault}
+use Rattle.btor_read.specs.Meaning.{FaultsAt}
 use Rattle.expr_read.specs.declared.faults.LangFault.{LangFault}
 use Rattle.script_read.specs.declared.fault.ScriptFault.{ScriptFault}
 use Rattle.knox_verify.specs.Judgements.{Parts, design, hints, Narrow, Agrees, Undecides, IsTooWide}

@@ -9,7 +9,7 @@ ghost use Rattle.knox_lang.specs.declared.parts.SpecParts.{SpecParts};
 ghost use Rattle.knox_lang.specs.declared.parts.DriverParts.{DriverParts};
 ghost use Rattle.knox_lang.specs.declared.parts.EmuParts.{EmuParts};
 ghost use Rattle.script_core.specs.declared.parts.ScriptParts.{ScriptParts};
-ghost use Rattle.btor_read.specs.Grammar.{IsCircuit};
+ghost use Rattle.btor_read.specs.Meaning.{IsCircuit};
 ghost use Rattle.lang_read.specs.Specifications.{spec_text};
 ghost use Rattle.lang_read.specs.Drivers.{driver_text};
 ghost use Rattle.lang_read.specs.Emulators.{emulator_text};

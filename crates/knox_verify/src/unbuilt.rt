@@ -6,7 +6,7 @@ ghost use Rattle.knox_verify.specs.declared.verdict.VerifyFault.TheVariants.{Mem
 ghost use Rattle.knox_verify.specs.Faults.{of_circuit, of_driver, of_script};
 
 use crate::verdict::{Letter, TextWhy, VerifyFault};
-use circuit_lines::{BtorFault, Why};
+use knox_circuit::{BtorFault, Why};
 use knox_sexpr::SexprFault;
 use lang_read::{LangFault, LangWhy};
 use script_read::{ScriptFault, ScriptWhy};

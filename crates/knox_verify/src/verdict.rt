@@ -1,5 +1,5 @@
 //! Verdicts on five texts.
-use circuit_lines::BtorFault;
+use knox_circuit::BtorFault;
 use lang_read::LangFault;
 use script_core::{Choices, HintNo};
 use script_read::ScriptFault;

@@ -1,4 +1,5 @@
--- Lists of words: whether they have given widths, and the lists of given widths by number.
+-- Lists of words: whether they have given widths, the lists of given widths by number, and what stands at the places that
+-- a mask marks.
 -- The project's own.
 use Rattle.std.specs.Prelude.{ℕ, ◌+◌, ◌*◌, ◌/◌, ◌%◌, ◌^◌, ◌==◌, ◌&&◌, nat_le, List, [], ◌∷◌, Bool, true, false, map}
 use Rattle.std.specs.List.{list_all}
@@ -55,3 +56,18 @@ abbrev pub number : List ℕ → Words → ℕ
 number [] as' = 0
 number (w ∷ ws) [] = 0
 number (w ∷ ws) (a ∷ as') = a.value * 2 ^ total ws + number ws as'
+
+-- the entries at the places that a mask marks
+abbrev pub pick : {A : Type 0} → List Bool → List A → List A
+pick [] xs = []
+pick (m ∷ mask) [] = []
+pick (true ∷ mask) (x ∷ xs) = x ∷ pick mask xs
+pick (false ∷ mask) (x ∷ xs) = pick mask xs
+
+-- a list with others, in order, at the places that a mask marks; where none of them is left, its own stay
+abbrev pub merge : {A : Type 0} → List Bool → List A → List A → List A
+merge [] base others = base
+merge (m ∷ mask) [] others = []
+merge (true ∷ mask) (x ∷ base) [] = x ∷ merge mask base []
+merge (true ∷ mask) (x ∷ base) (y ∷ others) = y ∷ merge mask base others
+merge (false ∷ mask) (x ∷ base) others = x ∷ merge mask base others

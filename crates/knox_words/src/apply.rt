@@ -27,20 +27,6 @@ pub fn op1(o: Op1, a: Word) -> Word
     }
 }
 
-/// Whether an operator takes words of these widths.
-///
-/// `iff` and `implies` take two words of width 1, `concat` two words of at most 128 bits together,
-/// and the others two words of one width.
-pub fn fits2(o: Op2, a: u8, b: u8) -> bool
-    ensures { result ≡ fits2_of o a b }
-{
-    match o {
-        Op2::Iff | Op2::Implies => a == 1 && b == 1,
-        Op2::Concat => u16::from(a) + u16::from(b) <= 128,
-        _ => a == b,
-    }
-}
-
 /// The value of an operator on two words of widths that it takes, which `fits2` tests.
 #[tactic(auto, using(crate::proofs::Masks::low_all))]
 pub fn op2(o: Op2, a: Word, b: Word) -> Word

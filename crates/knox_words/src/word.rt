@@ -7,7 +7,7 @@ use std::marker::Model;
 /// A word: a width of 1 to 128 bits, and a number below 2 to the power of the width.
 ///
 /// It is a bit-vector of BTOR2 and of SMT-LIB, read without a sign.
-#[derive(Clone, Copy, Debug, PartialEq, Eq)]
+#[derive(Clone, Copy, Debug, PartialEq, Eq, Hash)]
 pub struct Word {
     pub(crate) width: u8,
     pub(crate) value: u128,

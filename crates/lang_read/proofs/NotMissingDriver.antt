@@ -1,13 +1,13 @@
 -- A driver is refused as missing exactly where it lacks a call, and all else of it is read.
-use Rattle.std.proofs.Common.{◌≡◌, ◌↔◌, ℕ, nat_lt, ◌++◌, Bool, true, false, if◌then◌else◌, List, [], ◌∷◌, codes, reverse, refl, sym, ap, ◌∙◌, Option, Some, None, Result, Ok, Err, true≢false}
+use Rattle.std.proofs.Common.{◌≡◌, ◌↔◌, ℕ, nat_lt, ◌++◌, Bool, true, false, if◌then◌else◌, List, [], ◌∷◌, codes, refl, sym, ap, ◌∙◌, Option, Some, None, Result, Ok, Err, true≢false}
 use Rattle.knox_text.specs.declared.place.Place.{Place}
 use Rattle.knox_sexpr.specs.declared.tree.Tree.{Tree}
 use Rattle.knox_words.specs.Bits.{Bits, bits, is_word}
-use Rattle.circuit_meaning.specs.declared.port.Port.{Port}
-use Rattle.circuit_meaning.specs.declared.port.Cell.{Cell}
-use Rattle.circuit_meaning.specs.Ports.{inputs_of, outputs_of}
+use Rattle.knox_circuit.specs.declared.port.Port.{Port}
+use Rattle.knox_circuit.specs.declared.port.Cell.{Cell}
+use Rattle.knox_circuit.specs.Ports.{inputs_of, outputs_of}
 use Rattle.knox_circuit.specs.Circuit.{Circuit}
-use Rattle.circuit_meaning.specs.Circuit.{cells_of}
+use Rattle.knox_circuit.specs.Cells.{cells_of}
 use Rattle.knox_lang.specs.declared.expr.Space.TheVariants.{Arg, Local, Input, Output}
 use Rattle.knox_lang.specs.declared.parts.OpHead.{OpHead}
 use Rattle.knox_lang.specs.declared.parts.Body.{Body}
@@ -74,7 +74,7 @@ in-calls home ops names ts =
     in-each (call home ops names) and_last [] ts (λ before t. and-then (behind_head (codes "call") t) _ (in-head (codes "call") t) (λ us. call-parts home ops names (place_of t) before us))
 
 in-bodies : (c : Circuit) (ops : List OpHead) (ts : List Tree) → NotMissing (bodies c ops ts)
-in-bodies c ops ts = and-then (calls_of (Driver (port_names Input 0 (inputs_of (reverse c.lines)))) ops (port_names Output 0 (outputs_of (reverse c.lines))) ts) _ (in-calls _ ops _ ts) (λ es. tt)
+in-bodies c ops ts = and-then (calls_of (Driver (port_names Input 0 (inputs_of c.lines))) ops (port_names Output 0 (outputs_of c.lines)) ts) _ (in-calls _ ops _ ts) (λ es. tt)
 
 -- ---- what stands before them
 
@@ -114,7 +114,7 @@ in-idle inputs ts =
 in-driver : (c : Circuit) (ops : List OpHead) (ts : List Tree) → NotMissing (driver_in c ops ts)
 in-driver c ops ts =
     and-then (keep_of (cells_of c.lines) ts) _ (in-keep (cells_of c.lines) ts) (λ keep.
-    and-then (idle_of (inputs_of (reverse c.lines)) (behind_form (codes "persistent") ts)) _ (in-idle (inputs_of (reverse c.lines)) (behind_form (codes "persistent") ts)) (λ idle.
+    and-then (idle_of (inputs_of c.lines) (behind_form (codes "persistent") ts)) _ (in-idle (inputs_of c.lines) (behind_form (codes "persistent") ts)) (λ idle.
     and-then (bodies c ops (behind_form (codes "idle") (behind_form (codes "persistent") ts))) _ (in-bodies c ops (behind_form (codes "idle") (behind_form (codes "persistent") ts))) (λ bs. tt)))
 
 -- ---- what is refused as missing

@@ -3,15 +3,15 @@
 -- order. Each operation has one call. The languages aren't read whole yet, so that a call may stand
 -- in a form that isn't read: one that is missing is told where all else is read, and no fault stands
 -- behind it.
-use Rattle.std.specs.Prelude.{◌≡◌, ℕ, suc, ◌==◌, Bool, true, false, if◌then◌else◌, List, [], ◌∷◌, map, reverse, codes, Result, Ok}
+use Rattle.std.specs.Prelude.{◌≡◌, ℕ, suc, ◌==◌, Bool, true, false, if◌then◌else◌, List, [], ◌∷◌, map, codes, Result, Ok}
 use Rattle.knox_text.specs.declared.place.Place.{Place}
 use Rattle.knox_sexpr.specs.declared.tree.Tree.{Tree}
 use Rattle.knox_words.specs.Bits.{Bits, bits, is_word, word_or}
-use Rattle.circuit_meaning.specs.declared.port.Port.{Port}
-use Rattle.circuit_meaning.specs.declared.port.Cell.{Cell}
-use Rattle.circuit_meaning.specs.Ports.{inputs_of, outputs_of}
+use Rattle.knox_circuit.specs.declared.port.Port.{Port}
+use Rattle.knox_circuit.specs.declared.port.Cell.{Cell}
+use Rattle.knox_circuit.specs.Ports.{inputs_of, outputs_of, output_widths}
 use Rattle.knox_circuit.specs.Circuit.{Circuit}
-use Rattle.circuit_meaning.specs.Circuit.{cells_of}
+use Rattle.knox_circuit.specs.Cells.{cells_of}
 use Rattle.knox_lang.specs.declared.expr.Space.TheVariants.{Input, Output}
 use Rattle.knox_lang.specs.declared.parts.OpHead.{OpHead}
 use Rattle.knox_lang.specs.declared.parts.Body.{Body}
@@ -99,19 +99,16 @@ idle_of inputs ts = do
 -- the bodies of a driver's calls, which set inputs and see outputs
 abbrev pub bodies : Circuit → List OpHead → List Tree → Result (List Body) LangFault
 bodies c ops ts =
-    calls_of (Driver (port_names Input 0 (inputs_of (reverse c.lines)))) ops (port_names Output 0 (outputs_of (reverse c.lines))) ts >>= λ es. Ok (bodies_of ops es)
-
-abbrev pub widths_of : List Port → List ℕ
-widths_of ps = map (λ (p : Port). p.width) ps
+    calls_of (Driver (port_names Input 0 (inputs_of c.lines))) ops (port_names Output 0 (outputs_of c.lines)) ts >>= λ es. Ok (bodies_of ops es)
 
 abbrev pub together : Circuit → List Bool → List Bits → List OpHead → List Body → DriverParts
-together c keep idle ops bs = record { idle = idle; keep = keep; outs = widths_of (outputs_of (reverse c.lines)); funs = []; ops = ops; bodies = bs }
+together c keep idle ops bs = record { idle = idle; keep = keep; outs = output_widths c.lines; funs = []; ops = ops; bodies = bs }
 
 -- what stands in a driver's list
 abbrev pub driver_in : Circuit → List OpHead → List Tree → Result DriverParts LangFault
 driver_in c ops ts = do
   keep ← keep_of (cells_of c.lines) ts
-  idle ← idle_of (inputs_of (reverse c.lines)) (behind_form (codes "persistent") ts)
+  idle ← idle_of (inputs_of c.lines) (behind_form (codes "persistent") ts)
   bs ← bodies c ops (behind_form (codes "idle") (behind_form (codes "persistent") ts))
   Ok (together c keep idle ops bs)
 

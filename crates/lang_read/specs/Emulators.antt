@@ -1,14 +1,14 @@
 -- Which emulator the trees of a text mean: (emulator (field x w n) .. (power (local x w) .. stmt
 -- ..) (outputs (x e) ..) (tick (local x w) .. stmt ..)), where each part may be left out.
-use Rattle.std.specs.Prelude.{ℕ, nat_le, false, if◌then◌else◌, List, [], ◌∷◌, ◌++◌, map, reverse, codes, Result, Ok}
+use Rattle.std.specs.Prelude.{ℕ, nat_le, false, if◌then◌else◌, List, [], ◌∷◌, ◌++◌, map, codes, Result, Ok}
 use Rattle.knox_text.specs.declared.place.Place.{Place}
 use Rattle.knox_sexpr.specs.declared.tree.Tree.{Tree}
 use Rattle.knox_words.specs.Bits.{word_or}
-use Rattle.circuit_meaning.specs.declared.port.Port.{Port}
-use Rattle.circuit_meaning.specs.declared.port.Cell.{Cell}
-use Rattle.circuit_meaning.specs.Ports.{inputs_of, outputs_of}
-use Rattle.knox_circuit.specs.Circuit.{Circuit, noise_cells}
-use Rattle.circuit_meaning.specs.Circuit.{cells_of}
+use Rattle.knox_circuit.specs.declared.port.Port.{Port}
+use Rattle.knox_circuit.specs.declared.port.Cell.{Cell}
+use Rattle.knox_circuit.specs.Ports.{inputs_of, outputs_of, input_widths, output_widths}
+use Rattle.knox_circuit.specs.Circuit.{Circuit}
+use Rattle.knox_circuit.specs.Cells.{cells_of, noise_cells}
 use Rattle.cell_fields.specs.Fields.{cell_field}
 use Rattle.knox_lang.specs.declared.expr.Expr.{Expr}
 use Rattle.knox_lang.specs.declared.expr.Expr.TheVariants.{Lit}
@@ -35,7 +35,6 @@ use Rattle.lang_read.specs.declared.emulator.Outside.{Outside}
 use Rattle.lang_read.specs.declared.statement.Home.TheVariants.{Plain, Emulator}
 use Rattle.lang_read.specs.Entries.{front, behind_front, form_trees, behind_form, new_entry, filled}
 use Rattle.lang_read.specs.Bodies.{empty_body, silent_body}
-use Rattle.lang_read.specs.Drivers.{widths_of}
 
 -- ---- outputs
 
@@ -115,14 +114,14 @@ all_bodies powered names outs ops ts = do
 
 -- what an emulator has of a circuit and a specification, over the states that have words of noise
 abbrev pub outside_of : Circuit → SpecParts → List Cell → Outside
-outside_of c s noise = record { ins = widths_of (inputs_of (reverse c.lines)); outs = widths_of (outputs_of (reverse c.lines)); noise = map cell_field noise; cells = map cell_field (cells_of c.lines); ops = s.ops }
+outside_of c s noise = record { ins = input_widths c.lines; outs = output_widths c.lines; noise = map cell_field noise; cells = map cell_field (cells_of c.lines); ops = s.ops }
 
 -- the parts of an emulator that has no copy of the circuit
 abbrev pub together : Outside → Fields → Bodies → EmuParts
 together o fs bs = record { fields = fs.fields; init = fs.init; copy = false; ins = o.ins; outs = o.outs; noise = o.noise; cells = o.cells; funs = []; ops = o.ops; power = bs.power; outputs = bs.outputs; tick = bs.tick }
 
 abbrev pub bodies_behind : Circuit → SpecParts → List Cell → List Field → List Tree → Result Bodies LangFault
-bodies_behind c s noise fields ts = all_bodies (power_scope fields noise) (scope fields (inputs_of (reverse c.lines))) (outputs_of (reverse c.lines)) s.ops ts
+bodies_behind c s noise fields ts = all_bodies (power_scope fields noise) (scope fields (inputs_of c.lines)) (outputs_of c.lines) s.ops ts
 
 -- fields at the front, and then the bodies
 abbrev pub emulator_in : Circuit → SpecParts → List Cell → List Tree → Result EmuParts LangFault
@@ -138,7 +137,7 @@ emulator_made at p = if emulator_fits p then Ok p else fails at Width
 abbrev pub emulator_at : Circuit → SpecParts → DriverParts → Tree → Result EmuParts LangFault
 emulator_at c s d t = do
   ts ← behind_head (codes "emulator") t
-  p ← emulator_in c s (noise_cells c d.keep) ts
+  p ← emulator_in c s (noise_cells c.lines d.keep) ts
   emulator_made (place_of t) p
 
 -- the same where other trees follow, of which there must be none

@@ -4,7 +4,7 @@ use Rattle.knox_text.specs.Examples.{place}
 use Rattle.knox_words.specs.Bits.{bits}
 use Rattle.knox_sexpr.specs.declared.tree.Tree.{Tree}
 use Rattle.knox_sexpr.specs.declared.tree.Tree.TheVariants as trees
-use Rattle.circuit_meaning.specs.declared.port.Cell.{Cell}
+use Rattle.knox_circuit.specs.declared.port.Cell.{Cell}
 use Rattle.knox_circuit.specs.Circuit.{Circuit}
 use Rattle.knox_lang.specs.declared.expr.Expr.{Expr}
 use Rattle.knox_lang.specs.declared.expr.Expr.TheVariants.{Lit}

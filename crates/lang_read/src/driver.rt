@@ -1,9 +1,9 @@
 //! Drivers: `(driver (persistent x ..) (idle (x n) ..) (call op body (result e)) ..)`, where the first
 //! two may be left out.
 ghost use Rattle.std.specs.Prelude.{◌≡◌, IfOk};
-ghost use Rattle.circuit_meaning.specs.Circuit.{cells_of};
+ghost use Rattle.knox_circuit.specs.Cells.{cells_of};
 ghost use Rattle.expr_read.specs.Views.{Gives};
-ghost use Rattle.lang_read.specs.Drivers.{is_among, cell_of, new_cell, named_cells, keep_from, persistent, keep_of, idle_word, idled, idle_in, idle_entry, idle_entries, zero_words, idle_of, bodies, widths_of, together, driver_in, complete, made, driver_of, driver_text};
+ghost use Rattle.lang_read.specs.Drivers.{is_among, cell_of, new_cell, named_cells, keep_from, persistent, keep_of, idle_word, idled, idle_in, idle_entry, idle_entries, zero_words, idle_of, bodies, together, driver_in, complete, made, driver_of, driver_text};
 
 use crate::calls::{all_called, bodies_of, calls_of};
 use crate::entries::{behind_form, filled, form_trees, new_entry};
@@ -20,17 +20,6 @@ use knox_text::Place;
 use knox_words::{Word, Words, word_or};
 use sqlite_items::Items;
 use std::alloc::{AllocError, Global};
-
-/// The widths of inputs or outputs.
-pub(crate) fn widths_of(alloc: Global, ports: &[Port]) -> Result<Items<u8>, AllocError>
-    ensures { IfOk result (λ widths. widths ≡ widths_of ports.now) }
-{
-    let mut widths = Items::new(alloc);
-    for port in ports {
-        widths.push(port.width)?;
-    }
-    Ok(widths)
-}
 
 fn is_among(number: u32, numbers: &[u32]) -> bool
     ensures { result ≡ is_among number numbers.now }
@@ -233,7 +222,7 @@ fn together(
     Ok(DriverParts {
         idle,
         keep,
-        outs: widths_of(alloc, c.outputs_list())?,
+        outs: Items::from_slice(alloc, c.output_widths())?,
         funs: Items::new(alloc),
         ops: copied_ops(alloc, ops)?,
         bodies,

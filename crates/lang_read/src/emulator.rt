@@ -5,7 +5,6 @@ ghost use Rattle.expr_read.specs.Views.{Gives};
 ghost use Rattle.lang_read.specs.Emulators.{alone, entered, entry_in, outputs_entry, entries, zero_outputs, shown_by, scope, power_scope, power_in, power_of, tick_in, tick_of, all_bodies, outside_of, together, bodies_behind, emulator_in, emulator_made, emulator_at, emulator_of, emulator_text};
 
 use crate::body::{MOST_COST, empty_body, silent_body};
-use crate::driver::widths_of;
 use crate::entries::{behind_form, filled, form_trees, new_entry};
 use crate::heads::copied_ops;
 use crate::statement::Home;
@@ -247,8 +246,8 @@ fn outside_of(
     ensures { IfOk result (λ out. out ≡ outside_of c.now s.now noise.now) }
 {
     Ok(Outside {
-        ins: widths_of(alloc, c.inputs())?,
-        outs: widths_of(alloc, c.outputs_list())?,
+        ins: Items::from_slice(alloc, c.input_widths())?,
+        outs: Items::from_slice(alloc, c.output_widths())?,
         noise: cell_fields::fields_of(alloc, noise)?,
         cells: cell_fields::fields_of(alloc, c.cells())?,
         ops: copied_ops(alloc, s.ops())?,

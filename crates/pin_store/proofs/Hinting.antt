@@ -4,9 +4,9 @@ use Rattle.knox_words.specs.Bits.{bits}
 use Rattle.knox_words.specs.Ops.{op2_or}
 use Rattle.knox_words.specs.declared.op.Op2.TheVariants.{Eq, And}
 use Rattle.knox_theory.specs.Script.{State, WireItems, Step, Cut, Subsume, Close, HostSections, Script}
-use Rattle.circuit_meaning.specs.Circuit.{cells_of}
-use Rattle.circuit_meaning.specs.Power.{spread_words}
-use Rattle.circuit_lines.specs.declared.line.Line.{Line}
+use Rattle.knox_circuit.specs.Cells.{cells_of, state_widths, keep_mask}
+use Rattle.knox_words.specs.Lists.{merge, zeros_or}
+use Rattle.circuit_table.specs.declared.line.Line.{Line}
 use Rattle.knox_lang.specs.declared.expr.Expr.{Expr}
 use Rattle.knox_lang.specs.declared.expr.Expr.TheVariants as expr
 use Rattle.knox_lang.specs.declared.expr.Stmt.{Stmt}
@@ -105,7 +105,7 @@ plain_host v = record {
 -- by its `refine`, its `idle` and its cut
 abbrev pub plain_script : List Line → (refine idle cut : Value) → Script Left
 plain_script ls r v c = record {
-  refine = λ fields persistent kept. is_one r (seen fields (spread_words (cells_of ls) keep persistent) []);
+  refine = λ fields persistent kept. is_one r (seen fields (merge (keep_mask (cells_of ls) keep) (zeros_or (state_widths (cells_of ls))) persistent) []);
   wire_hint = 1;
   wire = Cut 2 (plain_cut c) loop;
   host = Some (plain_host v);

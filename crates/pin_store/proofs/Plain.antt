@@ -7,15 +7,17 @@ use Rattle.knox_words.specs.declared.op.Op1.TheVariants.{Not}
 use Rattle.knox_words.specs.declared.op.Op2.TheVariants.{Eq}
 use Rattle.knox_theory.specs.Device.{Reply, Replied, OutOfTurns, Asking, Ask, Ended, Device}
 use Rattle.knox_theory.specs.Design.{Design}
-use Rattle.circuit_lines.specs.declared.line.Line.{Line}
-use Rattle.circuit_meaning.specs.Circuit.{cells_of, output_words, state_after_tick, state_widths, input_widths}
-use Rattle.circuit_meaning.specs.Power.{factory_state, state_after_power, states_of, noise_widths, persistent_words, persistent_widths, spread_words}
+use Rattle.circuit_table.specs.declared.line.Line.{Line}
+use Rattle.knox_circuit.specs.Cells.{cells_of, state_widths, noise_widths, keep_mask}
+use Rattle.knox_circuit.specs.Ports.{input_widths}
+use Rattle.knox_circuit.specs.Circuit.{output_words, state_after_tick, state_after_power, factory_state}
+use Rattle.knox_circuit.specs.Rom.{rom_words}
+use Rattle.knox_words.specs.Lists.{pick, merge, zeros_or}
+use Rattle.device_design.specs.Roms.{rom_part}
 use Rattle.knox_lang.specs.declared.expr.Stmt.{Stmt}
 use Rattle.driver_machine.specs.Left.{Left, start, ended, reply}
 use Rattle.driver_machine.specs.Moves.{move, move_tests, ticks_left}
 use Rattle.driver_machine.specs.Fits.{fits_config}
-use Rattle.circuit_meaning.specs.Rom.{rom_words}
-use Rattle.device_design.specs.Roms.{rom_part}
 use Rattle.device_design.specs.Meaning.{head_result, persistent_roms}
 use Rattle.pin_store.specs.Store.{set_head, check_head, driver_with}
 
@@ -99,15 +101,15 @@ module _ (w : ℕ) (ls : List Line) (waits : Bool → Reply) where
   -- by the words that the emulator has after power-on
   abbrev pub plain_device : (emulator : Words → Words) → Device
   plain_device emulator = record {
-    noise = noise_widths (states_of ls) keep;
-    factory_noise = noise_widths (states_of ls) [];
+    noise = noise_widths ls keep;
+    factory_noise = noise_widths ls [];
     ins = input_widths ls;
     ops = 2;
     args = λ o. args_of w o;
     idle = bits 2 0 ∷ bits w 0 ∷ [];
     factory = λ noise. factory_state ls noise;
-    persistent_of = λ cells. persistent_words (cells_of ls) keep cells;
-    power = λ persistent noise. state_after_power ls keep (spread_words (cells_of ls) keep persistent) noise;
+    persistent_of = λ cells. pick (keep_mask (cells_of ls) keep) cells;
+    power = λ persistent noise. state_after_power ls keep (merge (keep_mask (cells_of ls) keep) (zeros_or (state_widths (cells_of ls))) persistent) noise;
     outs = λ cells ins. output_words ls cells ins;
     tick = λ cells ins. state_after_tick ls cells ins;
     drive = λ o args cells. driven ls waits o args cells;
@@ -127,7 +129,7 @@ module _ (w : ℕ) (ls : List Line) (waits : Bool → Reply) where
     fields = w ∷ [];
     result = λ o. head_result (slice_get (set_head w ∷ check_head w ∷ []) o);
     cells = rom_part (rom_words ls) (state_widths (cells_of ls));
-    persistent = rom_part (persistent_roms ls keep) (persistent_widths (cells_of ls) keep);
+    persistent = rom_part (persistent_roms ls keep) (pick (keep_mask (cells_of ls) keep) (state_widths (cells_of ls)));
     emu = 1 ∷ [];
     copy = rom_part [] [];
     kept = [];

@@ -7,7 +7,7 @@ use Rattle.knox_theory.specs.Course.{End, Failed, run}
 use Rattle.knox_theory.specs.Script.{Script}
 use Rattle.knox_theory.specs.Segments.{Segment, segments}
 use Rattle.knox_theory.specs.Closed.{IsAmong, Falsifies}
-use Rattle.circuit_lines.specs.declared.line.Line.{Line}
+use Rattle.circuit_table.specs.declared.line.Line.{Line}
 use Rattle.driver_machine.specs.Left.{Left}
 use Rattle.device_design.specs.Meaning.{design_of}
 use Rattle.script_core.specs.Hints.{script_of}
@@ -37,13 +37,14 @@ module _ (w : ℕ) (ls : List Line) (x : Waiting) (h : Valued) where
   pub trace-row : IsKnown w ls x → (g : ℕ) (cs : Words) (events : List Event) → trace_at g (plain_design w ls x.waits x.more) (plain_parts w ls x h) cs ≡ events → trace_at g the_design (segments the_design the_script) cs ≡ events
   trace-row known g cs events e = (λ i. trace_at g (design-is w ls x i) (parts-are w ls x h known i) cs) ∙ e
 
-module _ (h : Valued) (w g : ℕ) (cs : Words) (end : End) where
-  pub store-run : run (course_at (plain_parts w (lines w shown) patient h) g) cs ≡ end → run (course_at (parts_with (said h) w shown) g) cs ≡ end
-  store-run e = run-row w (lines w shown) patient h refl g cs end e
+-- with a secret of four bits
+module _ (h : Valued) (g : ℕ) (cs : Words) (end : End) where
+  pub store-run : run (course_at (plain_parts 4 (lines 4 shown) patient h) g) cs ≡ end → run (course_at (parts_with (said h) 4 shown) g) cs ≡ end
+  store-run e = run-row 4 (lines 4 shown) patient h refl g cs end e
 
-  pub leak-run : run (course_at (plain_parts w (lines w leaked) patient h) g) cs ≡ end → run (course_at (parts_with (said h) w leaked) g) cs ≡ end
-  leak-run e = run-row w (lines w leaked) patient h refl g cs end e
+  pub leak-run : run (course_at (plain_parts 4 (lines 4 leaked) patient h) g) cs ≡ end → run (course_at (parts_with (said h) 4 leaked) g) cs ≡ end
+  leak-run e = run-row 4 (lines 4 leaked) patient h refl g cs end e
 
 -- by the impatient driver
-pub stuck-run : (w g : ℕ) (cs : Words) (end : End) → run (course_at (plain_parts w (lines w shown) impatient plain_right) g) cs ≡ end → run (course_at (impatient_parts w) g) cs ≡ end
-stuck-run w g cs end e = run-row w (lines w shown) impatient plain_right refl g cs end e
+pub stuck-run : (g : ℕ) (cs : Words) (end : End) → run (course_at (plain_parts 4 (lines 4 shown) impatient plain_right) g) cs ≡ end → run (course_at (impatient_parts 4) g) cs ≡ end
+stuck-run g cs end e = run-row 4 (lines 4 shown) impatient plain_right refl g cs end e

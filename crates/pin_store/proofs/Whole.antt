@@ -9,9 +9,9 @@ use Rattle.knox_theory.specs.WireSegments.{enters}
 use Rattle.knox_theory.specs.HostSegments.{is_reply, call_course}
 use Rattle.knox_theory.specs.Segments.{Segment, segments, wire_segment, cut_segment, factory_segment, boot_host_segment, rest_segment, wait_segment, call_segment}
 use Rattle.knox_theory.proofs.Basics.{and-left, and-right, and-both}
-use Rattle.circuit_lines.specs.declared.line.Line.{Line}
-use Rattle.circuit_meaning.specs.Circuit.{cells_of, state_widths}
-use Rattle.circuit_meaning.specs.Rom.{rom_words, agree}
+use Rattle.circuit_table.specs.declared.line.Line.{Line}
+use Rattle.knox_circuit.specs.Cells.{cells_of, state_widths}
+use Rattle.knox_circuit.specs.Rom.{rom_words, agree}
 use Rattle.device_design.specs.Roms.{known_fit}
 use Rattle.device_design.proofs.RomLemmas.{part-fits, fits-widths, fits-agree}
 use Rattle.driver_machine.specs.Left.{Left}
@@ -57,9 +57,9 @@ module _ (w : ℕ) (ls : List Line) (x : Waiting) where
     ops = has-op;
     cells = λ ws f.
         and-both (fit (state_widths (cells_of ls)) ws) (agree (rom_words ls) ws) (fits-widths (rom_words ls) (state_widths (cells_of ls)) ws known f)
-        (fits-agree (rom_words ls) (state_widths (cells_of ls)) ws known f);
+        (fits-agree (rom_words ls) (state_widths (cells_of ls)) ws f);
     of_cells = λ ws f.
-        part-fits (rom_words ls) (state_widths (cells_of ls)) ws (and-left (fit (state_widths (cells_of ls)) ws) (agree (rom_words ls) ws) f)
+        part-fits (rom_words ls) (state_widths (cells_of ls)) ws known (and-left (fit (state_widths (cells_of ls)) ws) (agree (rom_words ls) ws) f)
         (and-right (fit (state_widths (cells_of ls)) ws) (agree (rom_words ls) ws) f);
     drive = λ o args cells. sym (drive-is w ls x o args cells);
     start = λ o args cells. refl;

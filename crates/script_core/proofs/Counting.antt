@@ -1,11 +1,8 @@
 -- Sums of bits up to 2^64 - 1, one summand at a time.
-use Rattle.std.proofs.Common.{◌≡◌, ℕ, zero, suc, ◌+◌, ◌*◌, ◌^◌, ◌%◌, ◌≤◌, List, [], ◌∷◌, ◌++◌, replicate, ap, sym, ◌∙◌, arith}
-use Rattle.std.proofs.Math.Nat.{mul_comm, pow-suc, mod-eq_of_lt}
+use Rattle.std.proofs.Common.{◌≡◌, ℕ, zero, suc, ◌+◌, ◌*◌, ◌^◌, ◌%◌, ◌≤◌, List, [], ◌∷◌, length, Bool, true, false, if◌then◌else◌, ap, refl, sym, ◌∙◌, arith}
+use Rattle.std.proofs.Math.Nat.{mod-eq_of_lt}
 use Rattle.std.proofs.Math.Pow.{pow_mono}
-use Rattle.knox_words.specs.Lists.{total}
-use Rattle.circuit_meaning.specs.declared.port.Cell.{Cell}
-use Rattle.circuit_meaning.specs.Circuit.{state_widths}
-use Rattle.circuit_lines.specs.Nodes.{size}
+use Rattle.knox_words.specs.Lists.{total, pick}
 use Rattle.script_core.specs.Runs.{counted}
 
 pub counted-small : (n : ℕ) → n ≤ 18446744073709551615 → counted n ≡ n
@@ -42,31 +39,26 @@ counted-times (suc n) b =
     let same = ap (λ z. counted (b + z)) (counted-times n b) in
     here ∙ (left ∙ (right ∙ (same ∙ (counted-right b (n * b) ∙ sym there))))
 
-pub counted-times-of : (n m b r : ℕ) → n ≡ counted m → r ≡ counted (n * b) → r ≡ counted (m * b)
-counted-times-of n m b r e f =
-    f ∙ (ap (λ z. counted (z * b)) e ∙ (ap counted (mul_comm (counted m) b) ∙ (counted-times b m ∙ ap counted (mul_comm b m))))
+-- the words at the places that a mask marks, one after another
 
-pub total-append : (xs ys : List ℕ) → total (xs ++ ys) ≡ total xs + total ys
-total-append [] ys = omega arith
-total-append (x ∷ xs) ys = let ih = total-append xs ys in omega arith
+pub taken-more : (sum one was whole w : ℕ) (m : Bool) (mask marks : List Bool) (ws left : List ℕ) → mask ≡ m ∷ marks → ws ≡ w ∷ left → one ≡ (if m then w else 0) → was ≡ counted (sum + one) →
+    counted (sum + total (pick mask ws)) ≡ counted whole → counted (was + total (pick marks left)) ≡ counted whole
+taken-more sum one was whole w m mask marks ws left is are e f h =
+    let split : total (pick mask ws) ≡ one + total (pick marks left) = (λ i. total (pick (is i) (are i))) ∙ (first m ∙ ap (λ n. n + total (pick marks left)) (sym e)) in
+    sum-more-exact sum one (total (pick marks left)) whole was f (ap (λ n. counted (sum + n)) (sym split) ∙ h)
+  where
+    first : (b : Bool) → total (pick (b ∷ marks) (w ∷ left)) ≡ (if b then w else 0) + total (pick marks left)
+    first true = refl
+    first false = omega arith
 
-pub total-replicate : (n w : ℕ) → total (replicate n w) ≡ n * w
-total-replicate zero w = omega arith
-total-replicate (suc n) w = let ih = total-replicate n w in omega arith
+pub taken-end : (sum whole : ℕ) (mask : List Bool) (ws : List ℕ) → length mask ≡ 0 → sum ≤ 18446744073709551615 → counted (sum + total (pick mask ws)) ≡ counted whole → sum ≡ counted whole
+taken-end sum whole [] ws e le h = sum-end sum whole le h
+taken-end sum whole (m ∷ mask) ws e le h = absurd (omega (arith, e))
 
--- the bits of so many words of one width
-pub counted-replicate : (n m w r : ℕ) → n ≡ counted m → r ≡ counted (n * w) → r ≡ counted (total (replicate m w))
-counted-replicate n m w r e f = counted-times-of n m w r e f ∙ ap counted (sym (total-replicate m w))
-
-pub power-more : (n was power : ℕ) → was ≡ counted (2 ^ n) → power ≡ counted (was + was) → power ≡ counted (2 ^ suc n)
-power-more n was power e f = let p = pow-suc 2 n in omega arith
-
--- cells, one after another
-pub cells-more : (sum one was whole : ℕ) (c : Cell) (left more : List Cell) → left ≡ c ∷ more → one ≡ counted (total (replicate (size c.index) c.width)) → was ≡ counted (sum + one) →
-    counted (sum + total (state_widths left)) ≡ counted whole → counted (was + total (state_widths more)) ≡ counted whole
-cells-more sum one was whole c left more is e f h =
-    let split : total (state_widths left) ≡ total (replicate (size c.index) c.width) + total (state_widths more) = ap (λ z. total (state_widths z)) is ∙ total-append (replicate (size c.index) c.width) (state_widths more) in
-    omega arith
+pub taken-short : (sum whole : ℕ) (mask : List Bool) (ws : List ℕ) → length ws ≡ 0 → sum ≤ 18446744073709551615 → counted (sum + total (pick mask ws)) ≡ counted whole → sum ≡ counted whole
+taken-short sum whole mask (w ∷ ws) e le h = absurd (omega (arith, e))
+taken-short sum whole [] [] e le h = sum-end sum whole le h
+taken-short sum whole (m ∷ mask) [] e le h = sum-end sum whole le h
 
 -- two sums
 pub sum-two : (x y a b r : ℕ) → a ≡ counted x → b ≡ counted y → r ≡ counted (a + b) → r ≡ counted (x + y)
@@ -79,4 +71,4 @@ words_of_width w le =
     let one : 1 * 2 ^ w ≡ 2 ^ w = omega arith in
     ap (λ z. z % 4294967296) one ∙ mod-eq_of_lt (omega arith)
 
-pub ruleset sums = (sum-more, sum-more-exact, sum-end, counted-replicate, cells-more, power-more)
+pub ruleset sums = (sum-more, sum-more-exact, sum-end)

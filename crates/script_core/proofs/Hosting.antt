@@ -9,9 +9,10 @@ use Rattle.knox_theory.specs.Course.{Course, Check, Done, takes}
 use Rattle.knox_theory.specs.HostSegments.{is_reply, is_concluded, call_items}
 use Rattle.knox_theory.specs.WireSegments.{enters}
 use Rattle.knox_theory.specs.Lawful.{IsDesign}
-use Rattle.circuit_meaning.specs.Circuit.{cells_of, state_widths, state_after_tick}
-use Rattle.circuit_meaning.specs.Power.{states_of, noise_widths, factory_state, persistent_words, spread_words, state_after_power}
-use Rattle.circuit_meaning.specs.Rom.{rom_words, agree}
+use Rattle.knox_circuit.specs.Cells.{cells_of, state_widths, noise_widths, keep_mask}
+use Rattle.knox_circuit.specs.Circuit.{state_after_tick, state_after_power, factory_state}
+use Rattle.knox_circuit.specs.Rom.{rom_words, agree}
+use Rattle.knox_words.specs.Lists.{pick, merge, zeros_or}
 use Rattle.knox_lang.specs.Operation.{op_after, op_result}
 use Rattle.knox_lang.specs.WellFormed.{word_widths}
 use Rattle.driver_machine.specs.Drive.{drive}
@@ -20,6 +21,7 @@ use Rattle.driver_machine.specs.declared.reply.Reply.{Reply}
 use Rattle.driver_machine.specs.Configs.{meant, said}
 use Rattle.emu_machine.specs.declared.device.Device.{Device}
 use Rattle.device_design.specs.Meaning.{head_args, design_of, device_of}
+use Rattle.device_design.specs.Roms.{known_fit}
 use Rattle.device_design.proofs.RomLemmas.{part-fits}
 use Rattle.script_core.specs.declared.parts.Kind.TheVariants.{Factory, BootHost, Rest, Wait, Call}
 use Rattle.script_core.specs.declared.parts.ScriptParts.{ScriptParts}
@@ -66,20 +68,20 @@ module _ (v : Device) (p : ScriptParts) where
 
   -- `refine` of fields and device words
   abbrev pub refined_with : Words → Words → Bool
-  refined_with fields cells = refines v.spec.funs (cells_of v.circuit.lines) v.driver.keep p.refine fields (persistent_words (cells_of v.circuit.lines) v.driver.keep cells)
+  refined_with fields cells = refines v.spec.funs (cells_of v.circuit.lines) v.driver.keep p.refine fields (pick (keep_mask (cells_of v.circuit.lines) v.driver.keep) cells)
 
   abbrev pub factory_tail : Words → Course
   factory_tail noise =
       Check (refined_with v.spec.init (factory_state v.circuit.lines noise)) (hint_of_kind Factory p.sections) Done
 
-  pub factory-is : kind_course v p Factory ≡ takes (noise_widths (states_of v.circuit.lines) []) factory_tail
+  pub factory-is : kind_course v p Factory ≡ takes (noise_widths v.circuit.lines []) factory_tail
   unfolding design_of device_of script_of
   factory-is = refl
 
-  pub factory-short : (ws : List ℕ) (cs : Words) (r : Reach) → ws ≡ noise_widths (states_of v.circuit.lines) [] → DoesNotTake ws cs r → r ≡ reach (kind_course v p Factory) cs
+  pub factory-short : (ws : List ℕ) (cs : Words) (r : Reach) → ws ≡ noise_widths v.circuit.lines [] → DoesNotTake ws cs r → r ≡ reach (kind_course v p Factory) cs
   factory-short ws cs r w not = sym (ap (λ t. reach t cs) factory-is ∙ ((λ i. reach (takes (sym w i) factory_tail) cs) ∙ not factory_tail))
 
-  pub factory-on : (ws : List ℕ) (cs noise left fields cells : Words) (r : Reach) (b : Bool) (h : ℕ) → ws ≡ noise_widths (states_of v.circuit.lines) [] → Took ws cs noise left →
+  pub factory-on : (ws : List ℕ) (cs noise left fields cells : Words) (r : Reach) (b : Bool) (h : ℕ) → ws ≡ noise_widths v.circuit.lines [] → Took ws cs noise left →
       fields ≡ v.spec.init → cells ≡ factory_state v.circuit.lines noise → r ≡ (if b then ToEnd else ToFailure h) → b ≡ refined_with fields cells → h ≡ hint_of_kind Factory p.sections → r ≡ reach (kind_course v p Factory) cs
   factory-on ws cs noise left fields cells r b h w took f c e refined number =
       at-check r b _ h _ left e (refined ∙ (λ i. refined_with (f i) (c i))) number
@@ -87,7 +89,7 @@ module _ (v : Device) (p : ScriptParts) where
 
   abbrev pub boot_tail : Words → Words → Words → Course
   boot_tail fields kept noise =
-      Check (holds v.spec.funs p.idle (seen fields (state_after_power v.circuit.lines v.driver.keep (spread_words (cells_of v.circuit.lines) v.driver.keep kept) noise) [])) (hint_of_kind BootHost p.sections) Done
+      Check (holds v.spec.funs p.idle (seen fields (state_after_power v.circuit.lines v.driver.keep (merge (keep_mask (cells_of v.circuit.lines) v.driver.keep) (zeros_or (state_widths (cells_of v.circuit.lines))) kept) noise) [])) (hint_of_kind BootHost p.sections) Done
 
   pub boot-is : kind_course v p BootHost ≡ powered v p boot_tail
   unfolding design_of device_of script_of
@@ -97,7 +99,7 @@ module _ (v : Device) (p : ScriptParts) where
   boot-short cs r ended = sym (ap (λ t. reach t cs) boot-is ∙ ended boot_tail)
 
   pub boot-on : (cs fields kept noise cells left : Words) (r : Reach) (b : Bool) (h : ℕ) → ((rest : Words → Words → Words → Course) → reach (powered v p rest) cs ≡ reach (rest fields kept noise) left) →
-      cells ≡ state_after_power v.circuit.lines v.driver.keep (spread_words (cells_of v.circuit.lines) v.driver.keep kept) noise →
+      cells ≡ state_after_power v.circuit.lines v.driver.keep (merge (keep_mask (cells_of v.circuit.lines) v.driver.keep) (zeros_or (state_widths (cells_of v.circuit.lines))) kept) noise →
       r ≡ (if b then ToEnd else ToFailure h) → b ≡ holds v.spec.funs p.idle (seen fields cells []) → h ≡ hint_of_kind BootHost p.sections → r ≡ reach (kind_course v p BootHost) cs
   boot-on cs fields kept noise cells left r b h on c e idle number =
       at-check r b _ h _ left e (idle ∙ ap (λ (z : Words). holds v.spec.funs p.idle (seen fields z [])) c) number ∙ sym (ap (λ t. reach t cs) boot-is ∙ on boot_tail)
@@ -134,17 +136,17 @@ module _ (v : Device) (p : ScriptParts) where
   call-is o = refl
 
   -- the moves of the driver up to its end are the whole body
-  call-concludes : IsDesign (design v) → (o : ℕ) (fields cells args : Words) → o < length v.spec.ops → fit (head_args (slice_get v.spec.ops o)) args ≡ true → fit (state_widths (cells_of v.circuit.lines)) cells ≡ true → agree (rom_words v.circuit.lines) cells ≡ true →
+  call-concludes : IsDesign (design v) → known_fit (rom_words v.circuit.lines) (state_widths (cells_of v.circuit.lines)) ≡ true → (o : ℕ) (fields cells args : Words) → o < length v.spec.ops → fit (head_args (slice_get v.spec.ops o)) args ≡ true → fit (state_widths (cells_of v.circuit.lines)) cells ≡ true → agree (rom_words v.circuit.lines) cells ≡ true →
       concludes v p o fields cells args ≡ is_concluded (design v) (host v p) o (call_place o fields cells args) (finish (design v) (call_place o fields cells args).config)
   unfolding design_of device_of script_of
-  call-concludes lawful o fields cells args few fit_args fit_cells known i =
-      let r = lawful.driver.drive o args cells few fit_args (part-fits (rom_words v.circuit.lines) (state_widths (cells_of v.circuit.lines)) cells fit_cells known) i in
+  call-concludes lawful roms o fields cells args few fit_args fit_cells known i =
+      let r = lawful.driver.drive o args cells few fit_args (part-fits (rom_words v.circuit.lines) (state_widths (cells_of v.circuit.lines)) cells roms fit_cells known) i in
       is_reply r.0 (op_result v.spec o fields args) && holds v.spec.funs p.idle (seen (op_after v.spec o fields args) r.1 [])
 
-  pub call-ends : IsDesign (design v) → (o : ℕ) (fields cells args left : Words) → o < length v.spec.ops → fit (head_args (slice_get v.spec.ops o)) args ≡ true → fit (state_widths (cells_of v.circuit.lines)) cells ≡ true → agree (rom_words v.circuit.lines) cells ≡ true →
+  pub call-ends : IsDesign (design v) → known_fit (rom_words v.circuit.lines) (state_widths (cells_of v.circuit.lines)) ≡ true → (o : ℕ) (fields cells args left : Words) → o < length v.spec.ops → fit (head_args (slice_get v.spec.ops o)) args ≡ true → fit (state_widths (cells_of v.circuit.lines)) cells ≡ true → agree (rom_words v.circuit.lines) cells ≡ true →
       (r : Reach) (b : Bool) (h : ℕ) → r ≡ (if b then ToEnd else ToFailure h) → b ≡ concludes v p o fields cells args → h ≡ hint_of_kind (Call o) p.sections → r ≡ reach (call_tail o fields cells args) left
-  call-ends lawful o fields cells args left few fit_args fit_cells known r b h e same number =
-      at-check r b _ h _ left e (same ∙ call-concludes lawful o fields cells args few fit_args fit_cells known) number
+  call-ends lawful roms o fields cells args left few fit_args fit_cells known r b h e same number =
+      at-check r b _ h _ left e (same ∙ call-concludes lawful roms o fields cells args few fit_args fit_cells known) number
 
   -- what was concluded, from the driver's reply and the operation's result
   pub concluded : (o : ℕ) (fields cells args seen_args fields' cells' : Words) (answer : Reply) (given : Bits) (same idle : Bool) → seen_args ≡ args →

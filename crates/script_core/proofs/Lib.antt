@@ -1,7 +1,6 @@
 pub mod EachKind
 pub mod Ordered
 pub mod Counting
-pub mod KnownBits
 pub mod Widening
 pub mod Formed
 pub mod Listing

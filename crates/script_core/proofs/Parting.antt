@@ -5,8 +5,9 @@ use Rattle.knox_words.specs.Bits.{Bits}
 use Rattle.knox_words.specs.Lists.{Words, fits, fit, same_word}
 use Rattle.knox_words.proofs.Lists.{same_word-refl}
 use Rattle.knox_theory.specs.Course.{Course, takes}
-use Rattle.circuit_meaning.specs.Rom.{agree}
-use Rattle.device_design.specs.Roms.{unknown, filled, known_fit}
+use Rattle.knox_circuit.specs.Rom.{agree, free_mask}
+use Rattle.knox_words.specs.Lists.{pick, merge}
+use Rattle.device_design.specs.Roms.{known_words, known_fit}
 use Rattle.script_core.specs.Reached.{first_known}
 use Rattle.script_core.specs.Runs.{Wanting, Misfitting, reach}
 use Rattle.script_core.proofs.Reaching.{TookPart, DoesNotTakePart}
@@ -14,7 +15,7 @@ use Rattle.script_core.proofs.Reaching.{TookPart, DoesNotTakePart}
 -- Of widths ws, where `known` is known of their words, some words stand already. Those of the widths `wanted` are still to come, of which `more_known` is
 -- known, and the others are taken from `left`.
 pub record Parting (known : List (Option Bits)) (ws : List ℕ) (cs : Words) (more_known : List (Option Bits)) (wanted : List ℕ) (whole left : Words) : Type 0 where
-  pub reached : (rest : Words → Course) → reach (takes (unknown known ws) (λ taken. rest (filled known taken))) cs ≡ reach (takes (unknown more_known wanted) (λ taken. rest (whole ++ filled more_known taken))) left
+  pub reached : (rest : Words → Course) → reach (takes (pick (free_mask known) ws) (λ taken. rest (merge (free_mask known) (known_words known) taken))) cs ≡ reach (takes (pick (free_mask more_known) wanted) (λ taken. rest (whole ++ merge (free_mask more_known) (known_words more_known) taken))) left
   pub fitting : (more : Words) → fit wanted more ≡ true → fit ws (whole ++ more) ≡ true
   pub agreeing : (more : Words) → agree more_known more ≡ true → agree known (whole ++ more) ≡ true
   pub widths : known_fit more_known wanted ≡ true
@@ -31,7 +32,7 @@ module _ (known : List (Option Bits)) (ws : List ℕ) (cs : Words) where
   known-next v os w wanted whole left t =
       let both = and_parts (fits w v) (known_fit os wanted) t.widths in
       record {
-        reached = λ rest. t.reached rest ∙ (λ i. reach (takes (unknown os wanted) (λ taken. rest (append-one whole (filled os taken) v i))) left);
+        reached = λ rest. t.reached rest ∙ (λ i. reach (takes (pick (free_mask os) wanted) (λ taken. rest (append-one whole (merge (free_mask os) (known_words os) taken) v i))) left);
         fitting = λ more f. subst (λ (z : Words). fit ws z ≡ true) (append-one whole more v) (t.fitting (v ∷ more) (and_from (fits w v) (fit wanted more) both.0 f));
         agreeing = λ more f. subst (λ (z : Words). agree known z ≡ true) (append-one whole more v) (t.agreeing (v ∷ more) (and_from (same_word v v) (agree os more) (same_word-refl v) f));
         widths = both.1;
@@ -42,8 +43,8 @@ module _ (known : List (Option Bits)) (ws : List ℕ) (cs : Words) where
   taken-next os w wanted whole c left t h = record {
     reached = λ rest.
         t.reached rest
-        ∙ (ap (λ (b : Bool). if b then reach (takes (unknown os wanted) (λ taken. rest (whole ++ c ∷ filled os taken))) left else Misfitting) h
-        ∙ (λ i. reach (takes (unknown os wanted) (λ taken. rest (append-one whole (filled os taken) c i))) left));
+        ∙ (ap (λ (b : Bool). if b then reach (takes (pick (free_mask os) wanted) (λ taken. rest (whole ++ c ∷ merge (free_mask os) (known_words os) taken))) left else Misfitting) h
+        ∙ (λ i. reach (takes (pick (free_mask os) wanted) (λ taken. rest (append-one whole (merge (free_mask os) (known_words os) taken) c i))) left));
     fitting = λ more f. subst (λ (z : Words). fit ws z ≡ true) (append-one whole more c) (t.fitting (c ∷ more) (and_from (fits w c) (fit wanted more) h f));
     agreeing = λ more f. subst (λ (z : Words). agree known z ≡ true) (append-one whole more c) (t.agreeing (c ∷ more) f);
     widths = t.widths;
@@ -90,7 +91,7 @@ module _ (known : List (Option Bits)) (ws : List ℕ) (cs : Words) where
       Parting known ws cs os wanted whole left → DoesNotTakePart known ws cs Misfitting
   parting-misfit os wanted w others whole left c more is first word h t rest =
       (wants os wanted w others whole (c ∷ more) is first (subst (λ (z : Words). Parting known ws cs os wanted whole z) word t)).reached rest
-      ∙ ap (λ (b : Bool). if b then reach (takes (unknown (drop 1 os) others) (λ taken. rest (whole ++ c ∷ filled (drop 1 os) taken))) more else Misfitting) h
+      ∙ ap (λ (b : Bool). if b then reach (takes (pick (free_mask (drop 1 os)) others) (λ taken. rest (whole ++ c ∷ merge (free_mask (drop 1 os)) (known_words (drop 1 os)) taken))) more else Misfitting) h
 
   pub parting-done : (os : List (Option Bits)) (wanted : List ℕ) (whole left : Words) → length wanted ≡ 0 → Parting known ws cs os wanted whole left → TookPart known ws cs whole left
   parting-done os (w ∷ wanted) whole left e t = absurd (omega (arith, e))

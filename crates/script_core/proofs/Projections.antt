@@ -1,17 +1,17 @@
 -- What the design of a device and its script are, part by part.
-use Rattle.std.proofs.Common.{◌≡◌, ◌∙◌, [], length, Bool, refl, sym, ap, eqb-true}
+use Rattle.std.proofs.Common.{◌≡◌, ◌∙◌, [], length, Bool, refl, sym, ap}
 use Rattle.knox_words.specs.Lists.{Words, same_words}
 use Rattle.knox_theory.specs.Device.{Ticked, answered}
 use Rattle.knox_theory.specs.Script.{State}
 use Rattle.knox_theory.specs.WireSegments.{same_outs, ticked, is_refined}
-use Rattle.knox_theory.proofs.Basics.{and-left, and-right}
-use Rattle.circuit_meaning.specs.Circuit.{cells_of, output_words, state_after_tick}
-use Rattle.circuit_meaning.specs.Power.{persistent_words}
+use Rattle.knox_circuit.specs.Cells.{cells_of, keep_mask}
+use Rattle.knox_circuit.specs.Circuit.{output_words, state_after_tick}
+use Rattle.knox_words.specs.Lists.{pick}
 use Rattle.emu_machine.specs.declared.device.Device.{Device}
 use Rattle.emu_machine.specs.Dialogue.{tick_dialogue}
 use Rattle.emu_machine.specs.Emulator.{emulator_outputs, emulator_after_tick, fields_after_tick}
-use Rattle.emu_machine.specs.Fits.{fits_device}
 use Rattle.device_design.specs.Meaning.{design_of, device_of}
+use Rattle.device_design.proofs.DesignLemmas.{fit-together}
 use Rattle.script_core.specs.declared.parts.ScriptParts.{ScriptParts}
 use Rattle.script_core.specs.Hints.{refines, script_of}
 use Rattle.script_core.specs.Reached.{design, script}
@@ -20,7 +20,7 @@ pub same_outs-are : (v : Device) (st : State) (ins : Words) → same_outs (desig
 unfolding design_of device_of
 same_outs-are v st ins = refl
 
-pub is_refined-are : (v : Device) (p : ScriptParts) (st : State) → is_refined (design v) (script v p) st ≡ refines v.spec.funs (cells_of v.circuit.lines) v.driver.keep p.refine st.fields (persistent_words (cells_of v.circuit.lines) v.driver.keep st.cells)
+pub is_refined-are : (v : Device) (p : ScriptParts) (st : State) → is_refined (design v) (script v p) st ≡ refines v.spec.funs (cells_of v.circuit.lines) v.driver.keep p.refine st.fields (pick (keep_mask (cells_of v.circuit.lines) v.driver.keep) st.cells)
 unfolding design_of device_of script_of
 is_refined-are v p st = refl
 
@@ -41,8 +41,7 @@ both-ticked v st ins fields cells emu told f x e = λ i. record {
 
 -- a device has a truth value for each cell
 pub keep-fits : (v : Device) → length v.driver.keep ≡ length (cells_of v.circuit.lines)
-unfolding fits_device
-keep-fits v = eqb-true _ _ (and-right _ _ (and-left _ _ (and-left _ _ v.fits)))
+keep-fits v = (fit-together v.circuit v.spec v.driver v.emulator v.fits).keep
 
 -- whether outputs are equal, from the outputs themselves
 pub shown-same : (v : Device) (st : State) (ins shown emulated : Words) (b : Bool) → b ≡ same_words shown emulated → shown ≡ output_words v.circuit.lines st.cells ins → emulated ≡ emulator_outputs v.emulator st.emu ins → b ≡ same_outs (design v) st ins

@@ -7,8 +7,9 @@ use Rattle.knox_theory.specs.Script.{Place, Script}
 use Rattle.knox_theory.specs.Course as course
 use Rattle.knox_theory.specs.Course.{Ticking, Course, Check, Assume, Take, Mark, Tell, Done, run, takes}
 use Rattle.knox_theory.specs.WireSegments.{noted, ticked, same_outs, is_refined, steps}
-use Rattle.circuit_meaning.specs.Rom.{agree}
-use Rattle.device_design.specs.Roms.{unknown, filled}
+use Rattle.knox_circuit.specs.Rom.{agree, free_mask}
+use Rattle.knox_words.specs.Lists.{pick, merge}
+use Rattle.device_design.specs.Roms.{known_words}
 use Rattle.script_core.specs.declared.run.Left.{Left}
 use Rattle.script_core.specs.declared.run.Left.TheVariants.{On, Ended}
 use Rattle.script_core.specs.Reached.{Takes, three, TakesThree}
@@ -72,10 +73,10 @@ DoesNotTake ws cs r = (rest : Words → Course) → reach (takes ws rest) cs ≡
 
 abbrev pub TookPart : List (Option Bits) → List ℕ → Words → Words → Words → Type 0
 TookPart known ws cs whole left =
-    (fit ws whole ≡ true) × (agree known whole ≡ true) × ((rest : Words → Course) → reach (takes (unknown known ws) (λ taken. rest (filled known taken))) cs ≡ reach (rest whole) left)
+    (fit ws whole ≡ true) × (agree known whole ≡ true) × ((rest : Words → Course) → reach (takes (pick (free_mask known) ws) (λ taken. rest (merge (free_mask known) (known_words known) taken))) cs ≡ reach (rest whole) left)
 
 abbrev pub DoesNotTakePart : List (Option Bits) → List ℕ → Words → Reach → Type 0
-DoesNotTakePart known ws cs r = (rest : Words → Course) → reach (takes (unknown known ws) (λ taken. rest (filled known taken))) cs ≡ r
+DoesNotTakePart known ws cs r = (rest : Words → Course) → reach (takes (pick (free_mask known) ws) (λ taken. rest (merge (free_mask known) (known_words known) taken))) cs ≡ r
 
 abbrev pub TookThree : (ws : List ℕ) → List (Option Bits) → (xs ys : List ℕ) → Words → (first second third : Words) → Words → Type 0
 TookThree ws known xs ys words first second third left =
@@ -86,10 +87,10 @@ abbrev pub DoesNotTakeThree : (ws : List ℕ) → List (Option Bits) → (xs ys 
 DoesNotTakeThree ws known xs ys words r = (rest : Words → Words → Words → Course) → reach (three ws known xs ys rest) words ≡ r
 
 pub three-first : (ws : List ℕ) (known : List (Option Bits)) (xs ys : List ℕ) (words : Words) (r : Reach) → DoesNotTake ws words r → DoesNotTakeThree ws known xs ys words r
-three-first ws known xs ys words r t rest = t (λ a. takes (unknown known xs) (λ b. takes ys (λ c. rest a (filled known b) c)))
+three-first ws known xs ys words r t rest = t (λ a. takes (pick (free_mask known) xs) (λ b. takes ys (λ c. rest a (merge (free_mask known) (known_words known) b) c)))
 
 pub three-second : (ws : List ℕ) (known : List (Option Bits)) (xs ys : List ℕ) (words first left : Words) (r : Reach) → Took ws words first left → DoesNotTakePart known xs left r → DoesNotTakeThree ws known xs ys words r
-three-second ws known xs ys words first left r t u rest = t.1 (λ a. takes (unknown known xs) (λ b. takes ys (λ c. rest a (filled known b) c))) ∙ u (λ b. takes ys (λ c. rest first b c))
+three-second ws known xs ys words first left r t u rest = t.1 (λ a. takes (pick (free_mask known) xs) (λ b. takes ys (λ c. rest a (merge (free_mask known) (known_words known) b) c))) ∙ u (λ b. takes ys (λ c. rest first b c))
 
 pub three-third : (ws : List ℕ) (known : List (Option Bits)) (xs ys : List ℕ) (words first left second left' third : Words) → Took ws words first left → TookPart known xs left second left' → (l : Left) → Takes ys left' third l →
     TakesThree ws known xs ys words first second third l
@@ -98,10 +99,10 @@ three-third ws known xs ys words first left second left' third t u (On l) s = (
   u.0,
   u.1,
   s.0,
-  λ rest. t.1 (λ a. takes (unknown known xs) (λ b. takes ys (λ c. rest a (filled known b) c))) ∙ (u.2 (λ b. takes ys (λ c. rest first b c)) ∙ s.1 (λ c. rest first second c)),
+  λ rest. t.1 (λ a. takes (pick (free_mask known) xs) (λ b. takes ys (λ c. rest a (merge (free_mask known) (known_words known) b) c))) ∙ (u.2 (λ b. takes ys (λ c. rest first b c)) ∙ s.1 (λ c. rest first second c)),
 )
 three-third ws known xs ys words first left second left' third t u (Ended e) s =
-    λ rest. t.1 (λ a. takes (unknown known xs) (λ b. takes ys (λ c. rest a (filled known b) c))) ∙ (u.2 (λ b. takes ys (λ c. rest first b c)) ∙ s (λ c. rest first second c))
+    λ rest. t.1 (λ a. takes (pick (free_mask known) xs) (λ b. takes ys (λ c. rest a (merge (free_mask known) (known_words known) b) c))) ∙ (u.2 (λ b. takes ys (λ c. rest first b c)) ∙ s (λ c. rest first second c))
 
 -- the same of other lists, which are equal
 pub three-of : (ws : List ℕ) (known : List (Option Bits)) (xs ys ws' : List ℕ) (known' : List (Option Bits)) (xs' ys' : List ℕ) (words first second third : Words) (l : Left) → ws ≡ ws' → known ≡ known' → xs ≡ xs' → ys ≡ ys' →

@@ -11,13 +11,14 @@ use Rattle.knox_theory.specs.Closed.{IsAmong}
 use Rattle.knox_theory.specs.Traces.{drove, branch_word, is_of_call}
 use Rattle.knox_theory.proofs.Basics.{and-left, and-right, and-both}
 use Rattle.knox_theory.proofs.Tracing.{undriven}
-use Rattle.circuit_meaning.specs.Circuit.{cells_of, state_widths}
-use Rattle.circuit_meaning.specs.Rom.{rom_words}
+use Rattle.knox_circuit.specs.Cells.{cells_of, state_widths}
+use Rattle.knox_circuit.specs.Rom.{rom_words, free_mask}
+use Rattle.knox_words.specs.Lists.{pick, merge}
+use Rattle.device_design.specs.Roms.{known_words}
 use Rattle.knox_lang.specs.WellFormed.{word_widths}
 use Rattle.driver_machine.specs.Left as driver
 use Rattle.driver_machine.specs.Outcomes.{tests_left, tests_met}
 use Rattle.emu_machine.specs.declared.device.Device.{Device}
-use Rattle.device_design.specs.Roms.{unknown, filled}
 use Rattle.device_design.specs.Meaning.{head_args, design_of}
 use Rattle.script_core.specs.declared.parts.Kind.TheVariants.{Factory, BootHost, Rest, Wait, Call, Wire}
 use Rattle.script_core.specs.declared.parts.Root.{Root}
@@ -84,7 +85,7 @@ module _ (v : Device) (p : ScriptParts) (ws : List ℕ) (cs : Words) where
   idle_in fields cells = holds v.spec.funs p.idle (seen fields cells [])
 
   abbrev widths_taken : List ℕ
-  widths_taken = unknown (rom_words v.circuit.lines) (state_widths (cells_of v.circuit.lines))
+  widths_taken = pick (free_mask (rom_words v.circuit.lines)) (state_widths (cells_of v.circuit.lines))
 
   abbrev third_of : Rests → Words → Words → Words → Course
   third_of rest a b c = enters (idle_in a b) (rest a b c)
@@ -93,7 +94,7 @@ module _ (v : Device) (p : ScriptParts) (ws : List ℕ) (cs : Words) where
   second_of rest a b = takes ws (third_of rest a b)
 
   abbrev first_of : Rests → Words → Course
-  first_of rest a = takes widths_taken (λ b. second_of rest a (filled (rom_words v.circuit.lines) b))
+  first_of rest a = takes widths_taken (λ b. second_of rest a (merge (free_mask (rom_words v.circuit.lines)) (known_words (rom_words v.circuit.lines)) b))
 
   -- behind all words
   abbrev TookAll : (a b c left : Words) → Type 0
@@ -119,14 +120,14 @@ module _ (v : Device) (p : ScriptParts) (ws : List ℕ) (cs : Words) where
   by-second : (a left : Words) → ((rest : Rests) → reach (idling v p ws rest) cs ≡ reach (first_of rest a) left) → ((rest : Rests) → told (idling v p ws rest) cs ≡ told (first_of rest a) left) →
       Front widths_taken left → Begun
   by-second a left h k (On b more g) =
-      by-third a (filled (rom_words v.circuit.lines) b) more
-      (λ rest. h rest ∙ g.reached (λ b. second_of rest a (filled (rom_words v.circuit.lines) b)))
-      (λ rest. k rest ∙ g.tells (λ b. second_of rest a (filled (rom_words v.circuit.lines) b)))
+      by-third a (merge (free_mask (rom_words v.circuit.lines)) (known_words (rom_words v.circuit.lines)) b) more
+      (λ rest. h rest ∙ g.reached (λ b. second_of rest a (merge (free_mask (rom_words v.circuit.lines)) (known_words (rom_words v.circuit.lines)) b)))
+      (λ rest. k rest ∙ g.tells (λ b. second_of rest a (merge (free_mask (rom_words v.circuit.lines)) (known_words (rom_words v.circuit.lines)) b)))
       (front ws more)
   by-second a left h k (Out r g) =
       Ends r
-      (λ rest. h rest ∙ g.reached (λ b. second_of rest a (filled (rom_words v.circuit.lines) b)))
-      (λ rest. ap drove (k rest ∙ g.tells (λ b. second_of rest a (filled (rom_words v.circuit.lines) b))))
+      (λ rest. h rest ∙ g.reached (λ b. second_of rest a (merge (free_mask (rom_words v.circuit.lines)) (known_words (rom_words v.circuit.lines)) b)))
+      (λ rest. ap drove (k rest ∙ g.tells (λ b. second_of rest a (merge (free_mask (rom_words v.circuit.lines)) (known_words (rom_words v.circuit.lines)) b))))
 
   by-first : Front (word_widths v.spec.init) cs → Begun
   by-first (On a left g) = by-second a left (λ rest. g.reached (first_of rest)) (λ rest. g.tells (first_of rest)) (front widths_taken left)

@@ -6,15 +6,17 @@ use Rattle.knox_theory.specs.Design.{Design}
 use Rattle.knox_theory.specs.Script.{State, Place, Script}
 use Rattle.knox_theory.specs.Course.{Course, takes}
 use Rattle.knox_theory.specs.WireSegments.{Target, ToCut, noted, ticked, same_outs, is_refined, steps, course, enters, find, passed, never, wire_places, wire_course}
-use Rattle.circuit_meaning.specs.Circuit.{cells_of, state_widths, input_widths}
-use Rattle.circuit_meaning.specs.Power.{states_of, noise_widths, persistent_widths, spread_words, state_after_power}
-use Rattle.circuit_meaning.specs.Rom.{rom_words}
+use Rattle.knox_circuit.specs.Cells.{cells_of, state_widths, noise_widths, keep_mask}
+use Rattle.knox_circuit.specs.Ports.{input_widths}
+use Rattle.knox_circuit.specs.Circuit.{state_after_power}
+use Rattle.knox_circuit.specs.Rom.{rom_words, free_mask}
+use Rattle.knox_words.specs.Lists.{pick, merge, zeros_or}
+use Rattle.device_design.specs.Roms.{known_words}
 use Rattle.knox_lang.specs.declared.expr.Expr.{Expr}
 use Rattle.knox_lang.specs.declared.parts.Fun.{Fun}
 use Rattle.knox_lang.specs.WellFormed.{word_widths}
 use Rattle.emu_machine.specs.declared.device.Device.{Device}
 use Rattle.emu_machine.specs.Emulator.{emulator_after_power}
-use Rattle.device_design.specs.Roms.{unknown, filled}
 use Rattle.device_design.specs.Meaning.{persistent_roms, design_of, device_of}
 use Rattle.script_core.specs.declared.parts.Act.{Act}
 use Rattle.script_core.specs.declared.parts.Act.TheVariants as act
@@ -125,13 +127,13 @@ module _ (v : Device) (p : ScriptParts) where
   widths_of_fields = word_widths v.spec.init
 
   abbrev widths_of_kept : List ℕ
-  widths_of_kept = persistent_widths (cells_of v.circuit.lines) v.driver.keep
+  widths_of_kept = pick (keep_mask (cells_of v.circuit.lines) v.driver.keep) (state_widths (cells_of v.circuit.lines))
 
   abbrev known_of_kept : List (Option Bits)
   known_of_kept = persistent_roms v.circuit.lines v.driver.keep
 
   abbrev widths_of_noise : List ℕ
-  widths_of_noise = noise_widths (states_of v.circuit.lines) v.driver.keep
+  widths_of_noise = noise_widths v.circuit.lines v.driver.keep
 
   abbrev refined_in : Words → Words → Bool
   refined_in fields kept = refines v.spec.funs (cells_of v.circuit.lines) v.driver.keep p.refine fields kept
@@ -153,7 +155,7 @@ module _ (v : Device) (p : ScriptParts) where
   abbrev started_in : Words → Words → Words → State
   started_in fields kept noise = record {
     fields = fields;
-    cells = state_after_power v.circuit.lines v.driver.keep (spread_words (cells_of v.circuit.lines) v.driver.keep kept) noise;
+    cells = state_after_power v.circuit.lines v.driver.keep (merge (keep_mask (cells_of v.circuit.lines) v.driver.keep) (zeros_or (state_widths (cells_of v.circuit.lines))) kept) noise;
     emu = emulator_after_power v.emulator noise;
     copy = [];
   }
@@ -164,28 +166,28 @@ module _ (v : Device) (p : ScriptParts) where
   -- where the words that were taken are noted, at which the items don't look
   abbrev wire_noted : Words → Words → Words → Course
   wire_noted fields taken noise =
-      enters (refined_in fields (filled known_of_kept taken))
-      (course_from v p (wire_items p) (record { state = started_in fields (filled known_of_kept taken) noise; taken = fields ++ (taken ++ (noise ++ [])) }))
+      enters (refined_in fields (merge (free_mask known_of_kept) (known_words known_of_kept) taken))
+      (course_from v p (wire_items p) (record { state = started_in fields (merge (free_mask known_of_kept) (known_words known_of_kept) taken) noise; taken = fields ++ (taken ++ (noise ++ [])) }))
 
   abbrev wire_plain : Words → Words → Words → Course
-  wire_plain fields taken noise = enters (refined_in fields (filled known_of_kept taken)) (wire_from fields (filled known_of_kept taken) noise)
+  wire_plain fields taken noise = enters (refined_in fields (merge (free_mask known_of_kept) (known_words known_of_kept) taken)) (wire_from fields (merge (free_mask known_of_kept) (known_words known_of_kept) taken) noise)
 
-  wire-notes : wire_run v p ≡ takes widths_of_fields (λ a. takes (unknown known_of_kept widths_of_kept) (λ b. takes widths_of_noise (λ c. wire_noted a b c)))
+  wire-notes : wire_run v p ≡ takes widths_of_fields (λ a. takes (pick (free_mask known_of_kept) widths_of_kept) (λ b. takes widths_of_noise (λ c. wire_noted a b c)))
   unfolding design_of device_of script_of
   wire-notes = refl
 
   wire-powers : (cs : Words) → reach (wire_run v p) cs ≡ reach (powered v p wire_from) cs
   wire-powers cs =
       ap (λ t. reach t cs) wire-notes
-      ∙ three-same widths_of_fields (unknown known_of_kept widths_of_kept) widths_of_noise wire_noted wire_plain cs (λ a b c left.
-      ap (λ z. if refined_in a (filled known_of_kept b) then z else ToVacuous)
-      ((course-blind v p (wire_items p)).same (record { state = started_in a (filled known_of_kept b) c; taken = a ++ (b ++ (c ++ [])) }) (here (started_in a (filled known_of_kept b) c)) left refl))
+      ∙ three-same widths_of_fields (pick (free_mask known_of_kept) widths_of_kept) widths_of_noise wire_noted wire_plain cs (λ a b c left.
+      ap (λ z. if refined_in a (merge (free_mask known_of_kept) (known_words known_of_kept) b) then z else ToVacuous)
+      ((course-blind v p (wire_items p)).same (record { state = started_in a (merge (free_mask known_of_kept) (known_words known_of_kept) b) c; taken = a ++ (b ++ (c ++ [])) }) (here (started_in a (merge (free_mask known_of_kept) (known_words known_of_kept) b) c)) left refl))
 
   pub attach-short : (cs : Words) (r : Reach) → ((rest : Words → Words → Words → Course) → reach (powered v p rest) cs ≡ r) → reach (wire_run v p) cs ≡ r
   attach-short cs r ended = wire-powers cs ∙ ended wire_from
 
   pub attach-on : (cs fields kept noise cells emu left : Words) → ((rest : Words → Words → Words → Course) → reach (powered v p rest) cs ≡ reach (rest fields kept noise) left) →
-      cells ≡ state_after_power v.circuit.lines v.driver.keep (spread_words (cells_of v.circuit.lines) v.driver.keep kept) noise → emu ≡ emulator_after_power v.emulator noise →
+      cells ≡ state_after_power v.circuit.lines v.driver.keep (merge (keep_mask (cells_of v.circuit.lines) v.driver.keep) (zeros_or (state_widths (cells_of v.circuit.lines))) kept) noise → emu ≡ emulator_after_power v.emulator noise →
       reach (wire_run v p) cs ≡ reach (course_from v p (wire_items p) (here (record { fields = fields; cells = cells; emu = emu; copy = [] }))) left
   attach-on cs fields kept noise cells emu left on c e =
       wire-powers cs ∙ (on wire_from
@@ -208,19 +210,19 @@ module _ (v : Device) (p : ScriptParts) (e : Expr) (items : List Item) where
 
   abbrev cut_noted : Words → Words → Words → Course
   cut_noted fields taken emu =
-      enters (holds v.spec.funs e (seen fields (filled known_of_cells taken) emu))
-      (course_from v p items (record { state = cut_state fields (filled known_of_cells taken) emu; taken = fields ++ (taken ++ (emu ++ [])) }))
+      enters (holds v.spec.funs e (seen fields (merge (free_mask known_of_cells) (known_words known_of_cells) taken) emu))
+      (course_from v p items (record { state = cut_state fields (merge (free_mask known_of_cells) (known_words known_of_cells) taken) emu; taken = fields ++ (taken ++ (emu ++ [])) }))
 
-  cut-notes : cut_run v p e items ≡ takes (word_widths v.spec.init) (λ a. takes (unknown known_of_cells widths_of_cells) (λ b. takes (word_widths v.emulator.init) (λ c. cut_noted a b c)))
+  cut-notes : cut_run v p e items ≡ takes (word_widths v.spec.init) (λ a. takes (pick (free_mask known_of_cells) widths_of_cells) (λ b. takes (word_widths v.emulator.init) (λ c. cut_noted a b c)))
   unfolding design_of device_of
   cut-notes = refl
 
   cut-takes : (cs : Words) → reach (cut_run v p e items) cs ≡ reach (three (word_widths v.spec.init) known_of_cells widths_of_cells (word_widths v.emulator.init) cut_from) cs
   cut-takes cs =
       ap (λ t. reach t cs) cut-notes
-      ∙ three-same (word_widths v.spec.init) (unknown known_of_cells widths_of_cells) (word_widths v.emulator.init) cut_noted (λ a b c. cut_from a (filled known_of_cells b) c) cs (λ a b c left.
-      ap (λ z. if holds v.spec.funs e (seen a (filled known_of_cells b) c) then z else ToVacuous)
-      ((course-blind v p items).same (record { state = cut_state a (filled known_of_cells b) c; taken = a ++ (b ++ (c ++ [])) }) (here (cut_state a (filled known_of_cells b) c)) left refl))
+      ∙ three-same (word_widths v.spec.init) (pick (free_mask known_of_cells) widths_of_cells) (word_widths v.emulator.init) cut_noted (λ a b c. cut_from a (merge (free_mask known_of_cells) (known_words known_of_cells) b) c) cs (λ a b c left.
+      ap (λ z. if holds v.spec.funs e (seen a (merge (free_mask known_of_cells) (known_words known_of_cells) b) c) then z else ToVacuous)
+      ((course-blind v p items).same (record { state = cut_state a (merge (free_mask known_of_cells) (known_words known_of_cells) b) c; taken = a ++ (b ++ (c ++ [])) }) (here (cut_state a (merge (free_mask known_of_cells) (known_words known_of_cells) b) c)) left refl))
 
   pub enter-short : (cs : Words) (r : Reach) → DoesNotTakeThree (word_widths v.spec.init) known_of_cells widths_of_cells (word_widths v.emulator.init) cs r → reach (cut_run v p e items) cs ≡ r
   enter-short cs r t = cut-takes cs ∙ t cut_from

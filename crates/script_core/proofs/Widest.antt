@@ -2,8 +2,8 @@
 use Rattle.std.proofs.Common.{◌≡◌, ◌∙◌, ℕ, ◌+◌, ◌*◌, List, [], ◌∷◌, Some, slice_get, ◌⊎◌, inl, inr, refl, ap, sym, arith}
 use Rattle.knox_words.specs.Lists.{total}
 use Rattle.knox_theory.specs.Segments.{widest}
-use Rattle.circuit_meaning.specs.Circuit.{input_widths}
-use Rattle.circuit_meaning.specs.Power.{noise_widths, states_of}
+use Rattle.knox_circuit.specs.Cells.{noise_widths}
+use Rattle.knox_circuit.specs.Ports.{input_widths}
 use Rattle.knox_lang.specs.WellFormed.{word_widths}
 use Rattle.emu_machine.specs.declared.device.Device.{Device}
 use Rattle.device_design.specs.Meaning.{design_of, device_of, head_args}
@@ -48,11 +48,11 @@ module _ (v : Device) where
       by_act (act.Subsume l) e = refl
 
   module _ (p : ScriptParts) where
-    pub factory-counted : (r : ℕ) → r ≡ counted (total (noise_widths (states_of v.circuit.lines) [])) → r ≡ counted (kind_bits v p Factory)
+    pub factory-counted : (r : ℕ) → r ≡ counted (total (noise_widths v.circuit.lines [])) → r ≡ counted (kind_bits v p Factory)
     unfolding design_of device_of
     factory-counted r e = e
 
-    pub boot-counted : (r : ℕ) → r ≡ counted (total (word_widths v.spec.init) + (total (kept_taken v) + total (noise_widths (states_of v.circuit.lines) v.driver.keep))) → r ≡ counted (kind_bits v p BootHost)
+    pub boot-counted : (r : ℕ) → r ≡ counted (total (word_widths v.spec.init) + (total (kept_taken v) + total (noise_widths v.circuit.lines v.driver.keep))) → r ≡ counted (kind_bits v p BootHost)
     unfolding design_of device_of
     boot-counted r e = e ∙ ap counted (omega arith)
 
@@ -70,11 +70,11 @@ module _ (v : Device) where
     call-counted o r e = e ∙ ap counted (omega arith)
 
     wire-sum : (x : ℕ) → x ≡ widest (design v) (items_of v.spec.funs (wire_items p)) →
-        (total (word_widths v.spec.init) + (total (kept_taken v) + total (noise_widths (states_of v.circuit.lines) v.driver.keep))) + x ≡ kind_bits v p Wire
+        (total (word_widths v.spec.init) + (total (kept_taken v) + total (noise_widths v.circuit.lines v.driver.keep))) + x ≡ kind_bits v p Wire
     unfolding design_of device_of
     wire-sum x e = omega (arith, e)
 
-    pub wire-counted : (a b r : ℕ) → a ≡ counted (total (word_widths v.spec.init) + (total (kept_taken v) + total (noise_widths (states_of v.circuit.lines) v.driver.keep))) →
+    pub wire-counted : (a b r : ℕ) → a ≡ counted (total (word_widths v.spec.init) + (total (kept_taken v) + total (noise_widths v.circuit.lines v.driver.keep))) →
         b ≡ counted (items_bits (counted (total (input_widths v.circuit.lines))) (wire_items p)) → r ≡ counted (a + b) → r ≡ counted (kind_bits v p Wire)
     wire-counted a b r ea eb er =
         sum-two _ (widest (design v) (items_of v.spec.funs (wire_items p))) a b r ea (eb ∙ items-widest (wire_items p)) er ∙ ap counted (wire-sum _ refl)

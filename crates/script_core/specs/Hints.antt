@@ -2,10 +2,10 @@
 use Rattle.std.specs.Prelude.{ℕ, zero, suc, ◌+◌, ◌*◌, ◌-◌, ◌==◌, ◌&&◌, List, [], ◌∷◌, ◌++◌, length, slice_get, Option, Some, None, Bool, true, false, if◌then◌else◌}
 use Rattle.knox_words.specs.Bits.{Bits}
 use Rattle.knox_theory.specs.Script.{WireItems, Step, Cut, Subsume, Close, HostSections, Script}
-use Rattle.circuit_meaning.specs.declared.port.Cell.{Cell}
+use Rattle.knox_circuit.specs.Cells.{cells_of, state_widths, keep_mask}
 use Rattle.knox_circuit.specs.Circuit.{Circuit}
-use Rattle.circuit_meaning.specs.Circuit.{cells_of}
-use Rattle.circuit_meaning.specs.Power.{spread_words}
+use Rattle.knox_words.specs.Lists.{merge, zeros_or}
+use Rattle.knox_circuit.specs.declared.port.Cell.{Cell}
 use Rattle.knox_lang.specs.declared.expr.Expr.{Expr}
 use Rattle.knox_lang.specs.declared.parts.Fun.{Fun}
 use Rattle.knox_lang.specs.declared.parts.SpecParts.{SpecParts}
@@ -34,7 +34,7 @@ holds funs e sp = (eval (called funs) e (scope sp [])).value == 1
 
 -- `refine` of the fields and the persistent words. It sees zero words in the other cells, so nothing that a power-cycle changes.
 abbrev pub refines : List Fun → List Cell → List Bool → Expr → (fields persistent : List Bits) → Bool
-refines funs cells keep e fields persistent = holds funs e (seen fields (spread_words cells keep persistent) [])
+refines funs cells keep e fields persistent = holds funs e (seen fields (merge (keep_mask cells keep) (zeros_or (state_widths cells)) persistent) [])
 
 -- an item, before the others. A list that ends without a subsume leads nowhere.
 abbrev pub item_of : List Fun → ℕ → Act → WireItems → WireItems

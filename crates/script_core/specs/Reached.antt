@@ -9,15 +9,16 @@ use Rattle.knox_theory.specs.Course.{Course, Done, takes}
 use Rattle.knox_theory.specs.WireSegments.{steps, course, enters, wire_course, cut_course, subsumes}
 use Rattle.knox_theory.specs.HostSegments.{is_reply, factory_course, boot_host_course, rest_course, wait_course, call_course}
 use Rattle.knox_theory.specs.Segments.{factory_bits, boot_host_bits, idle_bits, call_bits, wire_bits, cut_bits}
-use Rattle.circuit_meaning.specs.Circuit.{cells_of, state_widths}
-use Rattle.circuit_meaning.specs.Power.{states_of, noise_widths, persistent_widths, spread_words, state_after_power}
-use Rattle.circuit_meaning.specs.Rom.{rom_words, agree}
+use Rattle.knox_circuit.specs.Cells.{cells_of, state_widths, noise_widths, keep_mask}
+use Rattle.knox_circuit.specs.Circuit.{state_after_power}
+use Rattle.knox_circuit.specs.Rom.{rom_words, agree, free_mask}
+use Rattle.knox_words.specs.Lists.{pick, merge, zeros_or}
+use Rattle.device_design.specs.Roms.{known_words}
 use Rattle.knox_lang.specs.declared.expr.Expr.{Expr}
 use Rattle.knox_lang.specs.Operation.{op_after, op_result}
 use Rattle.knox_lang.specs.WellFormed.{word_widths}
 use Rattle.driver_machine.specs.Drive.{drive}
 use Rattle.emu_machine.specs.declared.device.Device.{Device}
-use Rattle.device_design.specs.Roms.{unknown, filled}
 use Rattle.device_design.specs.Meaning.{persistent_roms, design_of}
 use Rattle.driver_machine.specs.Left as driver
 use Rattle.script_core.specs.declared.parts.Item.{Item}
@@ -119,8 +120,8 @@ Leads v t cs st next (Ended p) = reach t cs ≡ reach_of p
 -- taking words of these widths but for those that are known: with these in their places all words fit, and the run goes on with all
 abbrev pub TakesPart : List (Option Bits) → List ℕ → Words → Words → Left → Type 0
 TakesPart known ws cs whole (On left) =
-    (fit ws whole ≡ true) × (agree known whole ≡ true) × ((rest : Words → Course) → reach (takes (unknown known ws) (λ taken. rest (filled known taken))) cs ≡ reach (rest whole) left.now)
-TakesPart known ws cs whole (Ended p) = (rest : Words → Course) → reach (takes (unknown known ws) (λ taken. rest (filled known taken))) cs ≡ reach_of p
+    (fit ws whole ≡ true) × (agree known whole ≡ true) × ((rest : Words → Course) → reach (takes (pick (free_mask known) ws) (λ taken. rest (merge (free_mask known) (known_words known) taken))) cs ≡ reach (rest whole) left.now)
+TakesPart known ws cs whole (Ended p) = (rest : Words → Course) → reach (takes (pick (free_mask known) ws) (λ taken. rest (merge (free_mask known) (known_words known) taken))) cs ≡ reach_of p
 
 -- what is known of the first place
 abbrev pub first_known : List (Option Bits) → Option Bits
@@ -129,7 +130,7 @@ first_known (o ∷ os) = o
 
 -- three lists of words are taken, one after another; of the second some are known
 abbrev pub three : (ws : List ℕ) → List (Option Bits) → (xs ys : List ℕ) → (Words → Words → Words → Course) → Course
-three ws known xs ys rest = takes ws (λ a. takes (unknown known xs) (λ b. takes ys (λ c. rest a (filled known b) c)))
+three ws known xs ys rest = takes ws (λ a. takes (pick (free_mask known) xs) (λ b. takes ys (λ c. rest a (merge (free_mask known) (known_words known) b) c)))
 
 abbrev pub TakesThree : (ws : List ℕ) → List (Option Bits) → (xs ys : List ℕ) → Words → (first second third : Words) → Left → Type 0
 TakesThree ws known xs ys words first second third (On left) =
@@ -141,14 +142,14 @@ TakesThree ws known xs ys words first second third (Ended p) =
 -- the root of `wire` and `boot-host`: fields, persistent and noise words are taken, and `refine` holds of the first two
 abbrev pub powered : Device → ScriptParts → (Words → Words → Words → Course) → Course
 powered v p rest =
-    three (word_widths v.spec.init) (persistent_roms v.circuit.lines v.driver.keep) (persistent_widths (cells_of v.circuit.lines) v.driver.keep) (noise_widths (states_of v.circuit.lines) v.driver.keep) (λ fields kept noise.
+    three (word_widths v.spec.init) (persistent_roms v.circuit.lines v.driver.keep) (pick (keep_mask (cells_of v.circuit.lines) v.driver.keep) (state_widths (cells_of v.circuit.lines))) (noise_widths v.circuit.lines v.driver.keep) (λ fields kept noise.
     enters (refines v.spec.funs (cells_of v.circuit.lines) v.driver.keep p.refine fields kept) (rest fields kept noise))
 
 -- the run goes on with such words, and the device words are those after the power-cycle
 abbrev pub Powers : Device → ScriptParts → Words → (fields kept noise cells : Words) → Left → Type 0
 Powers v p words fields kept noise cells (On left) =
     (fit (state_widths (cells_of v.circuit.lines)) cells ≡ true)
-    × (cells ≡ state_after_power v.circuit.lines v.driver.keep (spread_words (cells_of v.circuit.lines) v.driver.keep kept) noise)
+    × (cells ≡ state_after_power v.circuit.lines v.driver.keep (merge (keep_mask (cells_of v.circuit.lines) v.driver.keep) (zeros_or (state_widths (cells_of v.circuit.lines))) kept) noise)
     × ((rest : Words → Words → Words → Course) → reach (powered v p rest) words ≡ reach (rest fields kept noise) left.now)
 Powers v p words fields kept noise cells (Ended e) = (rest : Words → Words → Words → Course) → reach (powered v p rest) words ≡ reach_of e
 

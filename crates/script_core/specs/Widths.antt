@@ -1,12 +1,9 @@
 -- The bits that words and items take, for the sums of the code. The project's own; no public clause cites it.
-use Rattle.std.specs.Prelude.{ℕ, ◌+◌, ◌*◌, List, [], ◌∷◌, map, Option, Some, None}
-use Rattle.knox_words.specs.Bits.{Bits}
-use Rattle.circuit_meaning.specs.declared.port.Port.{Port}
-use Rattle.circuit_meaning.specs.Circuit.{cells_of, state_widths}
-use Rattle.circuit_meaning.specs.Power.{persistent_widths}
-use Rattle.circuit_meaning.specs.Rom.{rom_words}
+use Rattle.std.specs.Prelude.{ℕ, ◌+◌, ◌*◌, List, [], ◌∷◌, Option, Some, None}
+use Rattle.knox_circuit.specs.Cells.{cells_of, state_widths, keep_mask}
+use Rattle.knox_circuit.specs.Rom.{rom_words, free_mask}
+use Rattle.knox_words.specs.Lists.{pick}
 use Rattle.emu_machine.specs.declared.device.Device.{Device}
-use Rattle.device_design.specs.Roms.{unknown}
 use Rattle.device_design.specs.Meaning.{persistent_roms}
 use Rattle.script_core.specs.declared.parts.Act.{Act}
 use Rattle.script_core.specs.declared.parts.Act.TheVariants as act
@@ -14,18 +11,10 @@ use Rattle.script_core.specs.declared.parts.Item.{Item}
 
 -- the widths of the device words that are taken, and of the persistent words that are: of those that are no ROM words
 abbrev pub cells_taken : Device → List ℕ
-cells_taken v = unknown (rom_words v.circuit.lines) (state_widths (cells_of v.circuit.lines))
+cells_taken v = pick (free_mask (rom_words v.circuit.lines)) (state_widths (cells_of v.circuit.lines))
 
 abbrev pub kept_taken : Device → List ℕ
-kept_taken v = unknown (persistent_roms v.circuit.lines v.driver.keep) (persistent_widths (cells_of v.circuit.lines) v.driver.keep)
-
--- the bits of a word, which aren't taken where it is known
-abbrev pub bits_unless_known : Option Bits → ℕ → ℕ
-bits_unless_known None w = w
-bits_unless_known (Some v) w = 0
-
-abbrev pub port_widths : List Port → List ℕ
-port_widths ports = map (λ (p : Port). p.width) ports
+kept_taken v = pick (free_mask (persistent_roms v.circuit.lines v.driver.keep)) (pick (keep_mask (cells_of v.circuit.lines) v.driver.keep) (state_widths (cells_of v.circuit.lines)))
 
 -- the ticks of a step
 abbrev pub tick_count : Act → Option ℕ

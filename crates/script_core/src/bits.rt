@@ -1,9 +1,8 @@
 //! The bits that the widest run of a segment takes.
-ghost use Rattle.std.specs.Prelude.{◌≡◌, ◌+◌, ◌^◌, [], length, replicate, slice_get, Some, true, if◌then◌else◌};
-ghost use Rattle.knox_words.specs.Lists.{total};
-ghost use Rattle.circuit_meaning.specs.Circuit.{state_widths, input_widths};
-ghost use Rattle.circuit_meaning.specs.Power.{persistent_widths, noise_widths, states_of};
-ghost use Rattle.circuit_lines.specs.Nodes.{size};
+ghost use Rattle.std.specs.Prelude.{◌≡◌, ◌+◌, length, slice_get, Some, IfOk, if◌then◌else◌};
+ghost use Rattle.knox_words.specs.Lists.{total, pick};
+ghost use Rattle.knox_circuit.specs.Cells.{noise_widths};
+ghost use Rattle.knox_circuit.specs.Ports.{input_widths};
 ghost use Rattle.knox_lang.specs.Operation.{arg_widths};
 ghost use Rattle.knox_lang.specs.WellFormed.{word_widths};
 ghost use Rattle.device_design.specs.Meaning.{head_args};
@@ -11,18 +10,15 @@ ghost use Rattle.script_core.specs.declared.parts.Kind.TheVariants.{Wire};
 ghost use Rattle.script_core.specs.declared.parts.Root.TheVariants.{OfCut};
 ghost use Rattle.script_core.specs.Hints.{ops_of, wire_items, behind_cut};
 ghost use Rattle.script_core.specs.Reached.{kind_bits, root_bits};
-ghost use Rattle.script_core.specs.Widths.{cells_taken, kept_taken, bits_unless_known, port_widths, tick_count, items_bits};
-ghost use Rattle.device_design.specs.Roms.{unknown, known_fit, kept_roms};
+ghost use Rattle.script_core.specs.Widths.{cells_taken, kept_taken, tick_count, items_bits};
 ghost use Rattle.script_core.specs.Runs.{segments_of, bits_at, counted};
 
 use crate::parts::{Act, Item, Kind, Root, SegmentNo};
 use crate::script::Script;
-use crate::spread::split_cell;
-use crate::widths::{doublings, keeps_first, others};
 use emu_machine::Device;
-use knox_circuit::{Cell, Circuit, Port};
 use knox_lang::OpHead;
 use knox_words::Word;
+use std::alloc::{AllocError, Global};
 
 #[tactic(auto, using(crate::proofs::Counting::sums))]
 fn bits_of_words(words: &[Word]) -> u64
@@ -38,104 +34,39 @@ fn bits_of_words(words: &[Word]) -> u64
 }
 
 #[tactic(auto, using(crate::proofs::Counting::sums))]
-fn bits_of_ports(ports: &[Port]) -> u64
-    ensures { result ≡ counted (total (port_widths ports.now)) }
+fn bits_of(widths: &[u8]) -> u64
+    ensures { result ≡ counted (total widths.now) }
 {
     let mut sum = 0u64;
-    let mut left = ports;
-    while let Some((port, more)) = left.split_first() {
-        sum = sum.saturating_add(u64::from(port.width));
+    let mut left = widths;
+    while let Some((width, more)) = left.split_first() {
+        sum = sum.saturating_add(u64::from(*width));
         left = more;
     }
     sum
 }
 
-/// Two to a power, up to 2^64 - 1.
-#[tactic(auto, using(crate::proofs::Counting::sums))]
-pub(crate) fn power_of_two(doublings: u8) -> u64
-    ensures { result ≡ counted (2 ^ doublings) }
+/// The bits of a word, if it is taken.
+fn bits_if(taken: bool, width: u8) -> u64
+    ensures { result ≡ (if taken then width else 0) }
 {
-    let mut power = 1u64;
-    for _ in 0..doublings {
-        power = power.saturating_add(power);
-    }
-    power
+    if taken { u64::from(width) } else { 0 }
 }
 
-/// The bits of a cell.
-#[tactic(auto, using(crate::proofs::Counting::sums))]
-fn bits_of_cell(cell: &Cell) -> u64
-    ensures { result ≡ counted (total (replicate (size cell.now.index) cell.now.width)) }
-{
-    power_of_two(doublings(cell.index)).saturating_mul(u64::from(cell.width))
-}
-
-/// The bits of a word that are taken: none where it is known.
-fn bits_unless_known(known: Option<Word>, width: u8) -> u64
-    ensures { result ≡ bits_unless_known known width }
-{
-    match known {
-        None => u64::from(width),
-        Some(_) => 0,
-    }
-}
-
-/// The bits of the words of one width that are taken: of those that aren't known.
-fn bits_of_unknown(known: &[Option<Word>], width: u8) -> u64
-    ensures { result ≡ counted (total (unknown known.now (replicate (length known.now) width))) }
+/// The bits of the words at the places that a mask marks.
+fn bits_of_taken(mask: &[bool], widths: &[u8]) -> u64
+    ensures { result ≡ counted (total (pick mask.now widths.now)) }
 {
     let mut sum = 0u64;
-    let mut left = known;
-    while let Some((first, more)) = left.split_first() {
-        sum = sum.saturating_add(bits_unless_known(*first, width));
-        left = more;
-    }
-    sum
-}
-
-/// The bits of the cells that are taken: of the words that aren't known.
-fn bits_of_cells(cells: &[Cell], known: &[Option<Word>]) -> u64
-    requires { known_fit known.now (state_widths cells.now) ≡ true }
-    ensures { result ≡ counted (total (unknown known.now (state_widths cells.now))) }
-{
-    let mut sum = 0u64;
-    let mut cells_left = cells;
-    let mut left = known;
-    while let Some((cell, more)) = cells_left.split_first() {
-        let (own, rest) = split_cell(cell, left);
-        sum = sum.saturating_add(bits_of_unknown(own, cell.width));
+    let mut marks = mask;
+    let mut left = widths;
+    while let Some((mark, more)) = marks.split_first() {
+        let Some((width, rest)) = left.split_first() else {
+            return sum;
+        };
+        sum = sum.saturating_add(bits_if(*mark, *width));
+        marks = more;
         left = rest;
-        cells_left = more;
-    }
-    sum
-}
-
-/// The bits of words of one width that are taken, if their cell is kept.
-fn bits_if_kept(kept: bool, known: &[Option<Word>], width: u8) -> u64
-    ensures { result ≡ counted (total (if kept then unknown known.now (replicate (length known.now) width) else [])) }
-{
-    if kept {
-        bits_of_unknown(known, width)
-    } else {
-        0
-    }
-}
-
-/// The bits that are taken of the cells that are kept over a power-cycle.
-fn bits_of_kept(cells: &[Cell], keep: &[bool], known: &[Option<Word>]) -> u64
-    requires { known_fit known.now (state_widths cells.now) ≡ true }
-    ensures { result ≡ counted (total (unknown (kept_roms cells.now keep.now known.now) (persistent_widths cells.now keep.now))) }
-{
-    let mut sum = 0u64;
-    let mut cells_left = cells;
-    let mut keep_left = keep;
-    let mut left = known;
-    while let Some((cell, more)) = cells_left.split_first() {
-        let (own, rest) = split_cell(cell, left);
-        sum = sum.saturating_add(bits_if_kept(keeps_first(keep_left), own, cell.width));
-        left = rest;
-        keep_left = others(keep_left);
-        cells_left = more;
     }
     sum
 }
@@ -165,20 +96,6 @@ fn bits_of_items(items: &[Item], per_tick: u64) -> u64
             None => return sum,
         }
         left = more;
-    }
-    sum
-}
-
-/// The bits of the noise words of a power-cycle that keeps some cells.
-#[tactic(auto, using(crate::proofs::Counting::sums))]
-fn bits_of_noise(circuit: &Circuit, keep: &[bool]) -> u64
-    ensures { result ≡ counted (total (noise_widths (states_of circuit.now.lines) keep.now)) }
-{
-    knox_circuit::circuits_have_widths(circuit);
-    let mut sum = 0u64;
-    let mut cells = circuit.noise_walk(keep);
-    while let Some(next) = cells.next() {
-        sum = sum.saturating_add(bits_of_cell(next.cell));
     }
     sum
 }
@@ -222,23 +139,35 @@ fn emulator_bits(dev: &Device) -> u64
 fn cell_bits(dev: &Device) -> u64
     ensures { result ≡ counted (total (cells_taken dev.now)) }
 {
-    device_design::rom_words_have_widths(&dev.circuit);
-    bits_of_cells(dev.circuit.cells(), dev.circuit.roms())
+    bits_of_taken(dev.circuit.free_mask(), dev.circuit.state_widths())
 }
 
-fn kept_bits(dev: &Device) -> u64
-    ensures { result ≡ counted (total (kept_taken dev.now)) }
+/// The bits of the noise words of a power-cycle that keeps some cells.
+fn noise_bits(dev: &Device, keep: &[bool]) -> Result<u64, AllocError>
+    ensures { IfOk result (λ n. n ≡ counted (total (noise_widths dev.now.circuit.lines keep.now))) }
 {
-    device_design::rom_words_have_widths(&dev.circuit);
-    bits_of_kept(dev.circuit.cells(), dev.driver.keep(), dev.circuit.roms())
+    let widths = dev.circuit.noise_widths(keep)?;
+    Ok(bits_of(widths.as_slice()))
+}
+
+fn kept_bits(alloc: Global, dev: &Device) -> Result<u64, AllocError>
+    ensures { IfOk result (λ n. n ≡ counted (total (kept_taken dev.now))) }
+{
+    let keep = dev.driver.keep();
+    let mask = dev.circuit.keep_mask(keep)?;
+    let free = knox_words::pick(alloc, mask.as_slice(), dev.circuit.free_mask())?;
+    let widths = dev.circuit.persistent_widths(keep)?;
+    Ok(bits_of_taken(free.as_slice(), widths.as_slice()))
 }
 
 /// Before a power-cycle: the fields, the cells that are kept but for ROM words, and the noise.
-fn power_bits(dev: &Device) -> u64
-    ensures { result ≡ counted (total (word_widths dev.now.spec.init) + (total (kept_taken dev.now) + total (noise_widths (states_of dev.now.circuit.lines) dev.now.driver.keep))) }
+fn power_bits(alloc: Global, dev: &Device) -> Result<u64, AllocError>
+    ensures { IfOk result (λ n. n ≡ counted (total (word_widths dev.now.spec.init) + (total (kept_taken dev.now) + total (noise_widths dev.now.circuit.lines dev.now.driver.keep)))) }
 {
-    let words = kept_bits(dev).saturating_add(bits_of_noise(&dev.circuit, dev.driver.keep()));
-    field_bits(dev).saturating_add(words)
+    let kept = kept_bits(alloc, dev)?;
+    let noise = noise_bits(dev, dev.driver.keep())?;
+    let words = kept.saturating_add(noise);
+    Ok(field_bits(dev).saturating_add(words))
 }
 
 /// Between host calls: the fields and all cells but for ROM words.
@@ -252,14 +181,15 @@ fn idle_bits(dev: &Device) -> u64
 fn item_bits(dev: &Device, items: &[Item]) -> u64
     ensures { result ≡ counted (items_bits (counted (total (input_widths dev.now.circuit.lines))) items.now) }
 {
-    bits_of_items(items, bits_of_ports(dev.circuit.inputs()))
+    bits_of_items(items, bits_of(dev.circuit.input_widths()))
 }
 
 /// Of the segment of `wire`: those before a power-cycle, and those of its items.
-fn wire_bits(dev: &Device, sc: &Script) -> u64
-    ensures { result ≡ counted (kind_bits dev.now sc.now Wire) }
+fn wire_bits(alloc: Global, dev: &Device, sc: &Script) -> Result<u64, AllocError>
+    ensures { IfOk result (λ n. n ≡ counted (kind_bits dev.now sc.now Wire)) }
 {
-    power_bits(dev).saturating_add(item_bits(dev, sc.wire()))
+    let before = power_bits(alloc, dev)?;
+    Ok(before.saturating_add(item_bits(dev, sc.wire())))
 }
 
 /// Of the segment of a call: those between host calls, and the arguments.
@@ -269,16 +199,25 @@ fn call_bits(dev: &Device, op: u32) -> u64
     idle_bits(dev).saturating_add(argument_bits(dev, op))
 }
 
-/// Of the segment of a section.
-fn kind_bits(dev: &Device, sc: &Script, kind: Kind) -> u64
-    ensures { result ≡ counted (kind_bits dev.now sc.now kind) }
+/// Of the segment of a section. `Err` is want of memory.
+fn kind_bits(alloc: Global, dev: &Device, sc: &Script, kind: Kind) -> Result<u64, AllocError>
+    ensures { IfOk result (λ n. n ≡ counted (kind_bits dev.now sc.now kind)) }
 {
     match kind {
-        Kind::Factory => bits_of_noise(&dev.circuit, &[]),
-        Kind::BootHost => power_bits(dev),
-        Kind::Rest | Kind::Wait => idle_bits(dev),
-        Kind::Call(op) => call_bits(dev, op),
-        Kind::Wire => wire_bits(dev, sc),
+        Kind::Factory => {
+            let noise = noise_bits(dev, &[])?;
+            Ok(noise)
+        }
+        Kind::BootHost => {
+            let power = power_bits(alloc, dev)?;
+            Ok(power)
+        }
+        Kind::Rest | Kind::Wait => Ok(idle_bits(dev)),
+        Kind::Call(op) => Ok(call_bits(dev, op)),
+        Kind::Wire => {
+            let wire = wire_bits(alloc, dev, sc)?;
+            Ok(wire)
+        }
     }
 }
 
@@ -291,15 +230,23 @@ fn cut_bits(dev: &Device, sc: &Script) -> u64
     words.saturating_add(item_bits(dev, sc.behind_cut()))
 }
 
-/// The bits that the widest run of a segment takes, up to 2^64 - 1.
-pub fn choice_bits(dev: &Device, sc: &Script, g: SegmentNo) -> u64
+/// The bits that the widest run of a segment takes, up to 2^64 - 1. `Err` is want of memory.
+pub fn choice_bits(
+    alloc: Global,
+    dev: &Device,
+    sc: &Script,
+    g: SegmentNo,
+) -> Result<u64, AllocError>
     requires of { length dev.now.spec.ops ≡ ops_of sc.now }
-    ensures { result ≡ counted (bits_at (segments_of dev.now.circuit dev.now.spec dev.now.driver dev.now.emulator sc.now) g.0) }
+    ensures { IfOk result (λ n. n ≡ counted (bits_at (segments_of dev.now.circuit dev.now.spec dev.now.driver dev.now.emulator sc.now) g.0)) }
 {
     let _parts = sc.parts();
     match sc.root_of(g) {
-        Some(Root::OfKind(kind)) => kind_bits(dev, sc, kind),
-        Some(Root::OfCut) => cut_bits(dev, sc),
-        None => 0,
+        Some(Root::OfKind(kind)) => {
+            let bits = kind_bits(alloc, dev, sc, kind)?;
+            Ok(bits)
+        }
+        Some(Root::OfCut) => Ok(cut_bits(dev, sc)),
+        None => Ok(0),
     }
 }

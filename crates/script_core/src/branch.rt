@@ -52,7 +52,7 @@ impl Room {
         requires { made_for self.old ≡ room_for dev.now }
         ensures { IfOk result (λ bs. bs ≡ branch_word (kind_course dev.now sc.now (Call op)) words.now) }
     {
-        knox_circuit::circuits_have_widths(&dev.circuit);
+        circuit_laws::circuits_have_widths(&dev.circuit);
         device_design::devices_have_drivers(dev);
         driver_machine::moves_meet_the_tests(&dev.circuit, &dev.driver);
         arg_widths_into(dev.spec.ops(), op, &mut self.arg_widths)?;

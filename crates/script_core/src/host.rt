@@ -2,7 +2,7 @@
 ghost use Rattle.std.specs.Prelude.{◌≡◌, ◌<◌, [], length, map, slice_get, true, IfOk, OnOk};
 ghost use Rattle.knox_words.specs.Lists.{fit};
 ghost use Rattle.knox_theory.specs.HostSegments.{is_reply};
-ghost use Rattle.circuit_meaning.specs.Circuit.{cells_of, state_widths};
+ghost use Rattle.knox_circuit.specs.Cells.{cells_of, state_widths};
 ghost use Rattle.knox_lang.specs.Operation.{op_after, op_result};
 ghost use Rattle.driver_machine.specs.Configs.{meant};
 ghost use Rattle.device_design.specs.Meaning.{head_args};
@@ -103,7 +103,7 @@ impl Room {
         let left = match take_three(
             self.widths.fields.as_slice(),
             dev.circuit.roms(),
-            self.widths.cells.as_slice(),
+            dev.circuit.state_widths(),
             self.arg_widths.as_slice(),
             words,
             &mut self.fields,
@@ -199,7 +199,7 @@ impl Room {
         ensures run { IfOk result (λ p. reach_of p ≡ reach (kind_course dev.now sc.now Wait) words.now) }
         ensures made { made_for self.new ≡ made_for self.old }
     {
-        knox_circuit::circuits_have_widths(&dev.circuit);
+        circuit_laws::circuits_have_widths(&dev.circuit);
         self.arg_widths.clear();
         let _left = match self.begin_idle(alloc, dev, sc, words)? {
             Left::Ended(end) => return Ok(end),
@@ -243,7 +243,7 @@ impl Room {
         ensures value { IfOk result (λ b. b ≡ concludes dev.now sc.now op self.old.fields self.old.device.words self.old.args) }
         ensures made { made_for self.new ≡ made_for self.old }
     {
-        knox_circuit::circuits_have_widths(&dev.circuit);
+        circuit_laws::circuits_have_widths(&dev.circuit);
         let reply = driver_machine::drive(
             alloc,
             &dev.circuit,
@@ -273,6 +273,7 @@ impl Room {
         ensures made { made_for self.new ≡ made_for self.old }
     {
         device_design::devices_are_designs(dev);
+        device_design::rom_words_have_widths(&dev.circuit);
         arg_widths_into(dev.spec.ops(), op, &mut self.arg_widths)?;
         let _left = match self.begin_idle(alloc, dev, sc, words)? {
             Left::Ended(end) => return Ok(end),

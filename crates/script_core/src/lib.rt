@@ -13,7 +13,6 @@ mod parts;
 mod room;
 mod run;
 mod script;
-mod spread;
 mod widths;
 
 pub use bits::choice_bits;

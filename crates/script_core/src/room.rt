@@ -2,19 +2,21 @@
 ghost use Rattle.std.specs.Prelude.{◌≡◌, ℕ, suc, List, [], true, IfOk, OnOk};
 ghost use Rattle.knox_words.specs.Lists.{fit};
 ghost use Rattle.knox_theory.specs.WireSegments.{same_outs, ticked, is_refined};
-ghost use Rattle.circuit_meaning.specs.Circuit.{cells_of, state_widths, input_widths};
-ghost use Rattle.circuit_meaning.specs.Power.{spread_words, states_of, noise_widths, state_after_power};
+ghost use Rattle.knox_circuit.specs.Cells.{cells_of, state_widths, noise_widths, keep_mask};
+ghost use Rattle.knox_circuit.specs.Ports.{input_widths};
+ghost use Rattle.knox_circuit.specs.Circuit.{state_after_power};
+ghost use Rattle.knox_words.specs.Lists.{merge, zeros_or};
 ghost use Rattle.script_core.specs.declared.parts.Item.{Item};
 ghost use Rattle.script_core.specs.declared.parts.ScriptParts.{ScriptParts};
 ghost use Rattle.script_core.specs.Hints.{refines, wire_items, holds, seen};
 ghost use Rattle.script_core.specs.Reached.{design, script, passes, here, course_from, ticks_from, wire_run, cut_run, Leads, Powers};
 ghost use Rattle.script_core.specs.Rooms.{room_for, made_for, state_in};
 
+use crate::evaluate;
 use crate::parts::HintNo;
 use crate::run::{Left, Progress, take_three, take_words};
 use crate::script::Script;
 use crate::widths::Widths;
-use crate::{evaluate, spread};
 use emu_machine::{Device, EmuRoom};
 use knox_circuit::{Inputs, Noise, Scratch, State};
 use knox_lang::Expr;
@@ -123,22 +125,37 @@ impl Room {
         )
     }
 
-    /// Whether `refine` is 1 of the present fields and the persistent words in `kept`, which are
-    /// then spread over the device words of `spread`.
-    fn is_refined(&mut self, alloc: Global, dev: &Device, sc: &Script) -> Result<bool, AllocError>
-        ensures value { IfOk result (λ b. b ≡ refines dev.now.spec.funs (cells_of dev.now.circuit.lines) dev.now.driver.keep sc.now.refine self.old.fields self.old.kept) }
-        ensures spread { OnOk result (self.new.spread ≡ spread_words (cells_of dev.now.circuit.lines) dev.now.driver.keep self.old.kept) }
+    /// Puts the persistent words in `kept` into `spread`, with zero words in the other cells.
+    fn spread_kept(&mut self, dev: &Device) -> Result<(), AllocError>
+        requires { made_for self.old ≡ room_for dev.now }
+        ensures spread { OnOk result (self.new.spread ≡ merge (keep_mask (cells_of dev.now.circuit.lines) dev.now.driver.keep) (zeros_or (state_widths (cells_of dev.now.circuit.lines))) self.old.kept) }
         ensures kept { self.new.kept ≡ self.old.kept }
         ensures noise { self.new.noise.words ≡ self.old.noise.words }
         ensures state { state_in self.new ≡ state_in self.old }
         ensures made { made_for self.new ≡ made_for self.old }
     {
-        spread::spread(
-            dev.circuit.cells(),
-            dev.driver.keep(),
+        let _dev = dev;
+        knox_words::merge_words(
+            self.widths.mask.as_slice(),
+            self.widths.zeros.as_slice(),
             self.kept.as_slice(),
             &mut self.spread,
         )?;
+        Ok(())
+    }
+
+    /// Whether `refine` is 1 of the present fields and the persistent words in `kept`, which are
+    /// then spread over the device words of `spread`.
+    fn is_refined(&mut self, alloc: Global, dev: &Device, sc: &Script) -> Result<bool, AllocError>
+        requires { made_for self.old ≡ room_for dev.now }
+        ensures value { IfOk result (λ b. b ≡ refines dev.now.spec.funs (cells_of dev.now.circuit.lines) dev.now.driver.keep sc.now.refine self.old.fields self.old.kept) }
+        ensures spread { OnOk result (self.new.spread ≡ merge (keep_mask (cells_of dev.now.circuit.lines) dev.now.driver.keep) (zeros_or (state_widths (cells_of dev.now.circuit.lines))) self.old.kept) }
+        ensures kept { self.new.kept ≡ self.old.kept }
+        ensures noise { self.new.noise.words ≡ self.old.noise.words }
+        ensures state { state_in self.new ≡ state_in self.old }
+        ensures made { made_for self.new ≡ made_for self.old }
+    {
+        self.spread_kept(dev)?;
         self.none.clear();
         evaluate::holds(
             alloc,
@@ -165,7 +182,7 @@ impl Room {
         ensures made { made_for self.new ≡ made_for self.old }
     {
         device_design::rom_words_have_widths(&dev.circuit);
-        knox_circuit::persistent_words_are_spread(&dev.circuit);
+        circuit_laws::persistent_words_are_spread(&dev.circuit);
         let left = match take_three(
             self.widths.fields.as_slice(),
             self.widths.persistent_roms.as_slice(),
@@ -189,7 +206,7 @@ impl Room {
     /// Cycles the power of the device whose words are in `spread`, with the noise words of this room.
     fn cycle_power(&mut self, dev: &Device) -> Result<(), AllocError>
         requires cells { fit (state_widths (cells_of dev.now.circuit.lines)) self.old.spread ≡ true }
-        requires noise { fit (noise_widths (states_of dev.now.circuit.lines) dev.now.driver.keep) self.old.noise.words ≡ true }
+        requires noise { fit (noise_widths dev.now.circuit.lines dev.now.driver.keep) self.old.noise.words ≡ true }
         ensures cells { OnOk result (self.new.device.words ≡ state_after_power dev.now.circuit.lines dev.now.driver.keep self.old.spread self.old.noise.words) }
         ensures fit { OnOk result (fit (state_widths (cells_of dev.now.circuit.lines)) self.new.device.words ≡ true) }
         ensures fields { self.new.fields ≡ self.old.fields }
@@ -197,8 +214,8 @@ impl Room {
         ensures noise { self.new.noise.words ≡ self.old.noise.words }
         ensures made { made_for self.new ≡ made_for self.old }
     {
-        knox_circuit::circuits_have_widths(&dev.circuit);
-        knox_circuit::circuits_keep_widths(&dev.circuit);
+        circuit_laws::circuits_have_widths(&dev.circuit);
+        circuit_laws::circuits_keep_widths(&dev.circuit);
         mem::swap(&mut self.device.words, &mut self.spread);
         self.device = dev
             .circuit
@@ -248,7 +265,7 @@ impl Room {
         let left = match take_three(
             self.widths.fields.as_slice(),
             dev.circuit.roms(),
-            self.widths.cells.as_slice(),
+            dev.circuit.state_widths(),
             self.widths.emu.as_slice(),
             words,
             &mut self.fields,
@@ -280,7 +297,7 @@ impl Room {
         ensures run { IfOk result (λ l. (n : ℕ) (items : List Item) → Leads dev.now (ticks_from dev.now sc.now hint.0 (suc n) items (state_in self.old)) words.now (state_in self.new) (ticks_from dev.now sc.now hint.0 n items) l) }
         ensures made { made_for self.new ≡ made_for self.old }
     {
-        let left = match take_words(self.widths.inputs.as_slice(), words, &mut self.inputs.words)? {
+        let left = match take_words(dev.circuit.input_widths(), words, &mut self.inputs.words)? {
             Left::Ended(end) => return Ok(Left::Ended(end)),
             Left::On(left) => left,
         };
@@ -302,13 +319,13 @@ impl Room {
         dev: &Device,
         sc: &Script,
     ) -> Result<bool, AllocError>
+        requires { made_for self.old ≡ room_for dev.now }
         ensures value { IfOk result (λ b. b ≡ is_refined (design dev.now) (script dev.now sc.now) (state_in self.old)) }
         ensures state { state_in self.new ≡ state_in self.old }
         ensures made { made_for self.new ≡ made_for self.old }
     {
-        spread::persistent(
-            dev.circuit.cells(),
-            dev.driver.keep(),
+        knox_words::pick_words(
+            self.widths.mask.as_slice(),
             self.device.words.as_slice(),
             &mut self.kept,
         )?;
@@ -348,8 +365,8 @@ impl Room {
         ensures cells { OnOk result (fit (state_widths (cells_of dev.now.circuit.lines)) self.new.device.words ≡ true) }
         ensures made { made_for self.new ≡ made_for self.old }
     {
-        knox_circuit::circuits_have_widths(&dev.circuit);
-        knox_circuit::circuits_keep_widths(&dev.circuit);
+        circuit_laws::circuits_have_widths(&dev.circuit);
+        circuit_laws::circuits_keep_widths(&dev.circuit);
         device_design::dialogue_is_the_tick();
         dev.circuit
             .tick(&mut self.device, &self.inputs, &mut self.scratch);

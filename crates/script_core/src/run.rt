@@ -2,12 +2,12 @@
 ghost use Rattle.std.specs.Prelude.{◌≡◌, ◌<◌, ℕ, List, drop, length, true, IfOk, if◌then◌else◌};
 ghost use Rattle.knox_words.specs.Lists.{fit};
 ghost use Rattle.knox_theory.specs.Course.{run};
-ghost use Rattle.circuit_meaning.specs.Circuit.{cells_of, state_widths};
+ghost use Rattle.knox_circuit.specs.Cells.{cells_of, state_widths};
+ghost use Rattle.device_design.specs.Roms.{known_fit};
 ghost use Rattle.script_core.specs.declared.parts.Item.{Item};
 ghost use Rattle.script_core.specs.declared.parts.Kind.TheVariants.{Call};
 ghost use Rattle.script_core.specs.Hints.{ops_of, wire_items, first_cut};
 ghost use Rattle.script_core.specs.Reached.{course_from, ticks_from, here, wire_run, behind_course, kind_course, first_known, Takes, TakesPart, TakesThree, Leads};
-ghost use Rattle.device_design.specs.Roms.{known_fit};
 ghost use Rattle.script_core.specs.Rooms.{room_for, made_for, state_in};
 ghost use Rattle.script_core.specs.Runs.{ToEnd, ToFailure, reach, reach_of, end_of, end_said, course_at, segments_of};
 

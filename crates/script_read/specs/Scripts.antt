@@ -4,9 +4,9 @@ use Rattle.std.specs.Prelude.{◌≡◌, ℕ, ◌+◌, nat_le, ◌==◌, ◌&&�
 use Rattle.std.specs.Str.{bytes_eq}
 use Rattle.knox_text.specs.declared.place.Place.{Place}
 use Rattle.knox_sexpr.specs.declared.tree.Tree.{Tree}
-use Rattle.circuit_meaning.specs.declared.port.Cell.{Cell}
+use Rattle.knox_circuit.specs.declared.port.Cell.{Cell}
 use Rattle.knox_circuit.specs.Circuit.{Circuit}
-use Rattle.circuit_meaning.specs.Circuit.{cells_of}
+use Rattle.knox_circuit.specs.Cells.{cells_of}
 use Rattle.knox_lang.specs.declared.expr.Expr.{Expr}
 use Rattle.knox_lang.specs.declared.expr.Space.TheVariants.{Spec, Emu}
 use Rattle.knox_lang.specs.declared.parts.OpHead.{OpHead}

@@ -4,8 +4,9 @@
 //! is called `min` for 2 ^ (w - 1), the least number with a sign, `max` for the greatest, and `all`
 //! for all ones, which is minus one.
 use knox_words::{
-    Op1, Op2, Word, Words, fits, fits2, ite, op1, op2, op2_or, sext, sext_or, slice, slice_or,
-    uext, uext_or, word_far, word_or, zero,
+    Op1, Op2, Word, Words, extended, fits, fits2, ite, ite_typed, merge_words, op1, op2, op2_or,
+    op2_typed, pick, pick_words, sext, sext_or, slice, slice_or, slice_typed, uext, uext_or,
+    word_far, word_or, zero,
 };
 use std::test::Fail;
 
@@ -294,5 +295,35 @@ fn lists(rt: HostRuntime) -> Result<(), Fail> {
     assert_eq!(rt; words.pop(), Some(bit));
     words.clear();
     assert!(rt; words.is_empty());
+    Ok(())
+}
+
+#[test]
+fn typing(rt: HostRuntime) {
+    assert_eq!(rt; op2_typed(Op2::Concat, 100, 28), Some(128));
+    assert_eq!(rt; op2_typed(Op2::Ult, 8, 8), Some(1));
+    assert_eq!(rt; op2_typed(Op2::Add, 8, 9), None);
+    assert_eq!(rt; slice_typed(8, 6, 2), Some(5));
+    assert_eq!(rt; slice_typed(8, 8, 0), None);
+    assert_eq!(rt; extended(8, u32::MAX), None);
+    assert_eq!(rt; ite_typed(1, 8, 8), Some(8));
+}
+
+#[test]
+fn masks(rt: HostRuntime) -> Result<(), Fail> {
+    let mask = [true, false, true];
+    let widths = pick(rt.alloc(), &mask, &[1u8, 2, 3, 4])?;
+    assert_eq!(rt; widths.as_slice(), [1u8, 3].as_slice());
+    let known = [None, Some(zero()), Some(word_or(4, 9))];
+    let known = pick(rt.alloc(), &mask, &known)?;
+    assert_eq!(rt; known.as_slice(), [None, Some(word_or(4, 9))].as_slice());
+    let base = [word_or(4, 1), word_or(4, 2), word_or(4, 3), word_or(4, 4)];
+    let mut taken = Words::zeros_or(rt.alloc(), &[1])?;
+    pick_words(&mask, &base, &mut taken)?;
+    assert_eq!(rt; taken.as_slice(), [word_or(4, 1), word_or(4, 3)].as_slice());
+    let others = [word_or(4, 7)];
+    merge_words(&mask, &base, &others, &mut taken)?;
+    let merged = [word_or(4, 7), word_or(4, 2), word_or(4, 3), word_or(4, 4)];
+    assert_eq!(rt; taken.as_slice(), merged.as_slice());
     Ok(())
 }

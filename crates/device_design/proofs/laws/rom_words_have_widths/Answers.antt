@@ -1,7 +1,7 @@
 use Rattle.std.proofs.Common.{[], ◌∙◌, sym}
-use Rattle.circuit_meaning.specs.Circuit.{cells_of}
-use Rattle.circuit_meaning.specs.Rom.{rom_words}
-use Rattle.device_design.proofs.RomLemmas.{kept-known}
+use Rattle.knox_circuit.specs.Cells.{cells_of, state_widths, keep_mask}
+use Rattle.knox_circuit.specs.Rom.{rom_words}
+use Rattle.device_design.proofs.RomLemmas.{known-pick}
 use Rattle.device_design.proofs.DesignLemmas.{roms-fit}
 use Rattle.device_design.proofs.laws.rom_words_have_widths.Goals as goal
 
@@ -11,5 +11,6 @@ returns-clause-cells c =
 
 pub returns-clause-kept : goal.returns-clause-kept
 returns-clause-kept c keep =
-    kept-known (cells_of c.args.c.now.lines) keep (rom_words c.args.c.now.lines)
+    let lines = c.args.c.now.lines in
+    known-pick (keep_mask (cells_of lines) keep) (rom_words lines) (state_widths (cells_of lines))
     (roms-fit c.args.c.now (c.circuits_have_widths.ensures.noise []) (λ state f. c.circuits_keep_rom_words.ensures.count ∙ sym (c.circuits_have_widths.ensures.count state f)) c.circuits_keep_widths.ensures.factory c.circuits_keep_rom_words.ensures.factory)

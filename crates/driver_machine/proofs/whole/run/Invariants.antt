@@ -1,6 +1,5 @@
 use Rattle.std.proofs.Common.{◌≡◌, length}
-use Rattle.circuit_meaning.specs.Circuit.{cells_of}
-use Rattle.circuit_meaning.specs.States.{words_in}
+use Rattle.knox_circuit.specs.Cells.{cells_of, words_in}
 use Rattle.driver_machine.specs.Configs.{config_of, run_at}
 use Rattle.driver_machine.specs.Means.{means}
 use Rattle.driver_machine.specs.Moves.{parts_left}

@@ -14,4 +14,4 @@ returns-clause-run c w output store same = program-run c.args.dev.now c.args.sc.
 pub returns-clause-leak : goal.returns-clause-leak
 returns-clause-leak c store same is =
     program-ends c.args.dev.now c.args.sc.now 1 c.args.ch.now.words (end_said c.in_ok-end.end) c.in_ok-end.ensures 4 leaked (chosen 0 0 0 0 0 0) (Failed 3) store same is
-    (leak-run plain_right 4 1 (chosen 0 0 0 0 0 0) (Failed 3) refl)
+    (leak-run plain_right 1 (chosen 0 0 0 0 0 0) (Failed 3) refl)

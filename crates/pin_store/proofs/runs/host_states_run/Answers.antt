@@ -7,22 +7,22 @@ use Rattle.pin_store.proofs.Running.{store-run}
 use Rattle.pin_store.proofs.runs.host_states_run.Goals as goal
 
 pub returns-clause-factory : goal.returns-clause-factory
-returns-clause-factory c = store-run plain_right 4 2 [] Held refl
+returns-clause-factory c = store-run plain_right 2 [] Held refl
 
 pub returns-clause-attached : goal.returns-clause-attached
-returns-clause-attached c = store-run plain_right 4 3 (powered 9 9) Held refl
+returns-clause-attached c = store-run plain_right 3 (powered 9 9) Held refl
 
 pub returns-clause-other_secret : goal.returns-clause-other_secret
-returns-clause-other_secret c = store-run plain_right 4 3 (powered 9 3) Vacuous refl
+returns-clause-other_secret c = store-run plain_right 3 (powered 9 3) Vacuous refl
 
 pub returns-clause-no_secret : goal.returns-clause-no_secret
-returns-clause-no_secret c = store-run plain_right 4 3 (bits 4 9 ∷ []) Short refl
+returns-clause-no_secret c = store-run plain_right 3 (bits 4 9 ∷ []) Short refl
 
 pub returns-clause-rested : goal.returns-clause-rested
-returns-clause-rested c = store-run plain_right 4 4 (rested 9 9 1) Held refl
+returns-clause-rested c = store-run plain_right 4 (rested 9 9 1) Held refl
 
 pub returns-clause-not_idle : goal.returns-clause-not_idle
-returns-clause-not_idle c = store-run plain_right 4 4 (rested 9 3 1) Vacuous refl
+returns-clause-not_idle c = store-run plain_right 4 (rested 9 3 1) Vacuous refl
 
 pub returns-clause-no_answer : goal.returns-clause-no_answer
-returns-clause-no_answer c = store-run plain_right 4 4 (bits 4 9 ∷ bits 4 9 ∷ []) Short refl
+returns-clause-no_answer c = store-run plain_right 4 (bits 4 9 ∷ bits 4 9 ∷ []) Short refl

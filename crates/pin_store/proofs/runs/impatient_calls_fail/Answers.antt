@@ -8,13 +8,13 @@ use Rattle.pin_store.proofs.Leaking.{stuck-falsified, stuck-trace, stuck-open, s
 use Rattle.pin_store.proofs.runs.impatient_calls_fail.Goals as goal
 
 pub returns-clause-set : goal.returns-clause-set
-returns-clause-set c = stuck-run 4 6 (called 0 0 0 9) (Failed 9) refl
+returns-clause-set c = stuck-run 6 (called 0 0 0 9) (Failed 9) refl
 
 pub returns-clause-vacuous : goal.returns-clause-vacuous
-returns-clause-vacuous c = stuck-run 4 6 (called 9 3 0 9) Vacuous refl
+returns-clause-vacuous c = stuck-run 6 (called 9 3 0 9) Vacuous refl
 
 pub returns-clause-check : goal.returns-clause-check
-returns-clause-check c = stuck-run 4 7 (called 9 9 0 9) Held refl
+returns-clause-check c = stuck-run 7 (called 9 9 0 9) Held refl
 
 pub returns-clause-falsified : goal.returns-clause-falsified
 returns-clause-falsified c = stuck-falsified

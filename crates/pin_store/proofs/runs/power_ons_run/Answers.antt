@@ -7,19 +7,19 @@ use Rattle.pin_store.proofs.Running.{leak-run, store-run}
 use Rattle.pin_store.proofs.runs.power_ons_run.Goals as goal
 
 pub returns-clause-held : goal.returns-clause-held
-returns-clause-held c = store-run plain_right 4 0 (powered 9 9) Held refl
+returns-clause-held c = store-run plain_right 0 (powered 9 9) Held refl
 
 pub returns-clause-vacuous : goal.returns-clause-vacuous
-returns-clause-vacuous c = store-run plain_right 4 0 (powered 9 3) Vacuous refl
+returns-clause-vacuous c = store-run plain_right 0 (powered 9 3) Vacuous refl
 
 pub returns-clause-missing : goal.returns-clause-missing
-returns-clause-missing c = store-run plain_right 4 0 (bits 4 9 ∷ []) Short refl
+returns-clause-missing c = store-run plain_right 0 (bits 4 9 ∷ []) Short refl
 
 pub returns-clause-wide : goal.returns-clause-wide
-returns-clause-wide c = store-run plain_right 4 0 (bits 4 9 ∷ bits 5 9 ∷ []) Short refl
+returns-clause-wide c = store-run plain_right 0 (bits 4 9 ∷ bits 5 9 ∷ []) Short refl
 
 pub returns-clause-leak : goal.returns-clause-leak
-returns-clause-leak c = leak-run plain_right 4 0 (powered 9 9) Held refl
+returns-clause-leak c = leak-run plain_right 0 (powered 9 9) Held refl
 
 pub returns-clause-failed : goal.returns-clause-failed
-returns-clause-failed c = store-run (record plain_right { cut = showing 1 }) 4 0 (powered 9 9) (Failed 2) refl
+returns-clause-failed c = store-run (record plain_right { cut = showing 1 }) 0 (powered 9 9) (Failed 2) refl

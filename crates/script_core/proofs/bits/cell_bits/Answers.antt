@@ -1,12 +1,7 @@
 use Rattle.std.proofs.Common.{◌∙◌}
-use Rattle.knox_words.specs.Lists.{total}
-use Rattle.circuit_meaning.specs.Circuit.{state_widths}
-use Rattle.device_design.specs.Roms.{unknown, known_fit}
+use Rattle.knox_words.specs.Lists.{total, pick}
 use Rattle.script_core.specs.Runs.{counted}
 use Rattle.script_core.proofs.bits.cell_bits.Goals as goal
 
-pub bits_of_cells-requires : goal.bits_of_cells-requires
-bits_of_cells-requires c = (λ i. known_fit (c.roms.ensures i) (state_widths (c.cells.ensures i))) ∙ c.rom_words_have_widths.ensures.cells
-
 pub returns : goal.returns
-returns c = c.bits_of_cells.ensures ∙ (λ i. counted (total (unknown (c.roms.ensures i) (state_widths (c.cells.ensures i)))))
+returns c = c.bits_of_taken.ensures ∙ (λ i. counted (total (pick (c.free_mask.ensures i) (c.state_widths.ensures i))))

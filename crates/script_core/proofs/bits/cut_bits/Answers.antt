@@ -1,6 +1,6 @@
 use Rattle.std.proofs.Common.{◌∙◌, ap}
 use Rattle.knox_words.specs.Lists.{total}
-use Rattle.circuit_meaning.specs.Circuit.{input_widths}
+use Rattle.knox_circuit.specs.Ports.{input_widths}
 use Rattle.script_core.specs.Widths.{items_bits}
 use Rattle.script_core.specs.Runs.{counted}
 use Rattle.script_core.proofs.Counting.{sum-two}

@@ -1,15 +1,15 @@
-use Rattle.std.proofs.Common.{◌∙◌}
-use Rattle.knox_words.specs.Lists.{total}
-use Rattle.circuit_meaning.specs.Circuit.{state_widths}
-use Rattle.circuit_meaning.specs.Power.{persistent_widths}
-use Rattle.device_design.specs.Roms.{unknown, known_fit, kept_roms}
+use Rattle.std.proofs.Common.{◌∙◌, is_none}
+use Rattle.knox_words.specs.Lists.{total, pick}
+use Rattle.knox_words.proofs.PickLemmas.{pick-map}
+use Rattle.knox_circuit.specs.Cells.{cells_of, state_widths, keep_mask}
+use Rattle.knox_circuit.specs.Rom.{rom_words}
 use Rattle.script_core.specs.Runs.{counted}
 use Rattle.script_core.proofs.bits.kept_bits.Goals as goal
 
-pub bits_of_kept-requires : goal.bits_of_kept-requires
-bits_of_kept-requires c = (λ i. known_fit (c.roms.ensures i) (state_widths (c.cells.ensures i))) ∙ c.rom_words_have_widths.ensures.cells
-
 pub returns : goal.returns
 returns c =
-    c.bits_of_kept.ensures
-    ∙ (λ i. counted (total (unknown (kept_roms (c.cells.ensures i) (c.keep.ensures i) (c.roms.ensures i)) (persistent_widths (c.cells.ensures i) (c.keep.ensures i)))))
+    let lines = c.args.dev.now.circuit.lines in
+    let mask = c.as_slice.ensures.value ∙ (c.in_ok-mask.ensures ∙ (λ i. keep_mask (cells_of lines) (c.keep-keep.ensures i))) in
+    let free = c.as_slice-2.ensures.value ∙ (c.in_ok-free.ensures ∙ ((λ i. pick (mask i) (c.free_mask.ensures i)) ∙ pick-map is_none (keep_mask (cells_of lines) c.args.dev.now.driver.keep) (rom_words lines))) in
+    let widths = c.as_slice-3.ensures.value ∙ (c.in_ok-widths.ensures ∙ (λ i. pick (keep_mask (cells_of lines) (c.keep-keep.ensures i)) (state_widths (cells_of lines)))) in
+    c.bits_of_taken.ensures ∙ (λ i. counted (total (pick (free i) (widths i))))

@@ -1,12 +1,11 @@
-use Rattle.std.proofs.Common.{◌≡◌, ◌∙◌, ap}
+use Rattle.std.proofs.Common.{◌∙◌, ap}
 use Rattle.knox_words.specs.Lists.{total}
-use Rattle.circuit_meaning.specs.Power.{noise_widths, states_of}
+use Rattle.knox_circuit.specs.Cells.{noise_widths}
 use Rattle.script_core.specs.Runs.{counted}
 use Rattle.script_core.proofs.Counting.{sum-two}
 use Rattle.script_core.proofs.bits.power_bits.Goals as goal
 
 pub returns : goal.returns
 returns c =
-    let noise : c.bits_of_noise.result ≡ counted (total (noise_widths (states_of c.args.dev.now.circuit.lines) c.args.dev.now.driver.keep)) =
-    c.bits_of_noise.ensures ∙ ap (λ keep. counted (total (noise_widths (states_of c.args.dev.now.circuit.lines) keep))) c.keep.ensures in
-    sum-two _ _ _ _ _ c.field_bits.ensures (sum-two _ _ _ _ _ c.kept_bits.ensures noise c.saturating_add-words.ensures) c.saturating_add.ensures
+    let noise = c.in_ok-noise.ensures ∙ ap (λ keep. counted (total (noise_widths c.args.dev.now.circuit.lines keep))) c.keep.ensures in
+    sum-two _ _ _ _ _ c.field_bits.ensures (sum-two _ _ _ _ _ c.in_ok-kept.ensures noise c.saturating_add-words.ensures) c.saturating_add.ensures

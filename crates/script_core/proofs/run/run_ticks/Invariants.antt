@@ -1,6 +1,6 @@
 use Rattle.std.proofs.Common.{◌≡◌, List, true}
 use Rattle.knox_words.specs.Lists.{fit}
-use Rattle.circuit_meaning.specs.Circuit.{cells_of, state_widths}
+use Rattle.knox_circuit.specs.Cells.{cells_of, state_widths}
 use Rattle.script_core.specs.declared.parts.Item.{Item}
 use Rattle.script_core.specs.Reached.{ticks_from}
 use Rattle.script_core.specs.Rooms.{made_for, state_in}

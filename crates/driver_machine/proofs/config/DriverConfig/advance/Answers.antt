@@ -1,4 +1,5 @@
-use Rattle.std.proofs.Common.{◌≡◌, Some, arith, refl, sym, subst}
+use Rattle.std.proofs.Common.{◌≡◌, ◌∙◌, Some, arith, refl, sym, subst}
+use Rattle.std.specs.Option.{option_copied}
 use Rattle.std.proofs.lemmas.Grind.{common_steps}
 use Rattle.driver_machine.specs.declared.scene.Scene.{Scene}
 use Rattle.driver_machine.specs.declared.part.Part.TheVariants as part
@@ -63,7 +64,9 @@ ended c =
     let at : c.in_ok-position.position ≡ m.position = grind (arith, common_steps) in
     let moves = moves-as c.args.c.now.lines m.scene.args (run_in m.scene) c.do_part.new.pos (run_in m'.scene) c.as_slice-funs.result.now d.funs c.body_stmts.result.now (stmts_of (body_of d m))
     c.in_ok-position.position m.position c.in_ok-part.part part.AtResult funs body at c.in-AtResult.is c.in_ok-part.ensures.done in
-    let is : w ≡ result_value (setting c.args.c.now.lines d.funs m'.scene.args) (run_in m'.scene) (result_of (body_of d m)) = grind (arith, common_steps) in
+    let end : option_copied c.at-body.result ≡ body_of d m = grind (arith, common_steps) in
+    let is : w ≡ result_value (setting c.args.c.now.lines d.funs m'.scene.args) (run_in m'.scene) (result_of (body_of d m)) =
+    c.in_ok-word-in-AtResult.ensures.value ∙ (λ i. result_value (setting c.args.c.now.lines (funs i) m'.scene.args) (run_in m'.scene) (result_of (end i))) in
     subst (λ (s : Scene). Steps c.args.c.now.lines d m (record m' { scene = s }) (moved.Done (reply.Value w))) (sym scene_is)
     (result-steps c.args.c.now.lines d m m' c.requires.open_ c.do_part.new.pos w refl c.in_ok-part.ensures.args is moves)
 

@@ -29,5 +29,5 @@ returns-clause-run c =
     let w = c.in_ok-arg_widths_into.ensures ∙ ap (λ hs. head_args (slice_get hs c.args.op)) c.ops.ensures in
     let h = subst (λ (l : Left). Idles v c.args.sc.now c.arg_widths_into.new.out.items c.args.words.now room.fields room.device.words room.args l) c.in-On.is c.in_ok-end.ensures.run in
     idle-on v c.args.sc.now _ _ _ (call_tail v c.args.sc.now c.args.op) c.args.words.now room.fields room.device.words room.args c.in-On.left.now _ (call-is v c.args.sc.now c.args.op) w h.3
-    (call-ends v c.args.sc.now c.devices_are_designs.ensures c.args.op room.fields room.device.words room.args c.in-On.left.now c.requires.op
+    (call-ends v c.args.sc.now c.devices_are_designs.ensures c.rom_words_have_widths.ensures.cells c.args.op room.fields room.device.words room.args c.in-On.left.now c.requires.op
     (subst (λ ws. fit ws room.args ≡ true) w h.2) h.0 h.1 _ _ _ c.checked.ensures c.in_ok-concluded.ensures.value c.hint_of_kind.ensures)

@@ -1,7 +1,6 @@
 use Rattle.std.proofs.Common.{◌∙◌, ap, length, List, Bool}
 use Rattle.knox_words.specs.Lists.{fit}
-use Rattle.circuit_meaning.specs.Circuit.{cells_of, state_widths}
-use Rattle.circuit_meaning.specs.Power.{states_of, noise_widths}
+use Rattle.knox_circuit.specs.Cells.{cells_of, state_widths, noise_widths}
 use Rattle.script_core.proofs.Projections.{keep-fits}
 use Rattle.script_core.proofs.room.Room.cycle_power.Goals as goal
 
@@ -15,4 +14,4 @@ returns-clause-fit c =
     ap (fit (state_widths (cells_of lines))) c.in_ok-self.ensures.words
     ∙ c.circuits_keep_widths.ensures.power keep c.swap.new.x c.args.self.now.noise.words (ap length c.keep.ensures ∙ keep-fits c.args.dev.now)
     (ap (fit (state_widths (cells_of lines))) c.swap.ensures.x_after ∙ c.requires.cells)
-    (ap (λ (ks : List Bool). fit (noise_widths (states_of lines) ks) c.args.self.now.noise.words) c.keep.ensures ∙ c.requires.noise)
+    (ap (λ (ks : List Bool). fit (noise_widths lines ks) c.args.self.now.noise.words) c.keep.ensures ∙ c.requires.noise)

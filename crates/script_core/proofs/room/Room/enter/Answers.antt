@@ -1,7 +1,7 @@
 use Rattle.std.proofs.Common.{◌∙◌, ap, sym, subst, true, false}
 use Rattle.knox_words.specs.Lists.{fit}
 use Rattle.knox_theory.specs.Script.{State}
-use Rattle.circuit_meaning.specs.Circuit.{cells_of, state_widths}
+use Rattle.knox_circuit.specs.Cells.{cells_of, state_widths}
 use Rattle.device_design.specs.Roms.{known_fit}
 use Rattle.script_core.specs.declared.run.Left.{Left}
 use Rattle.script_core.specs.declared.run.Left.TheVariants.{On, Ended}
@@ -13,28 +13,28 @@ use Rattle.script_core.proofs.Walking.{enter-short, enter-on}
 use Rattle.script_core.proofs.room.Room.enter.Goals as goal
 
 pub take_three-requires : goal.take_three-requires
-take_three-requires c = (λ i. known_fit (c.roms.ensures i) ((c.as_slice-2.ensures.value ∙ ap (λ (s : RoomSizes). s.cells) c.requires) i)) ∙ c.rom_words_have_widths.ensures.cells
+take_three-requires c = (λ i. known_fit (c.roms.ensures i) (c.state_widths.ensures i)) ∙ c.rom_words_have_widths.ensures.cells
 
 pub returns-in-Ended-clause-run : goal.returns-in-Ended-clause-run
 returns-in-Ended-clause-run c p items =
     enter-short c.args.dev.now p c.args.condition.now items c.args.words.now (reach_of c.in-Ended.end)
-    (three-of c.as_slice.result.now c.roms.result.now c.as_slice-2.result.now c.as_slice-3.result.now _ _ _ _ c.args.words.now c.take_three.new.into_first c.take_three.new.into_second c.take_three.new.into_third (Ended c.in-Ended.end)
+    (three-of c.as_slice.result.now c.roms.result.now c.state_widths.result.now c.as_slice-2.result.now _ _ _ _ c.args.words.now c.take_three.new.into_first c.take_three.new.into_second c.take_three.new.into_third (Ended c.in-Ended.end)
     (c.as_slice.ensures.value ∙ ap (λ (s : RoomSizes). s.fields) c.requires)
     c.roms.ensures
-    (c.as_slice-2.ensures.value ∙ ap (λ (s : RoomSizes). s.cells) c.requires)
-    (c.as_slice-3.ensures.value ∙ ap (λ (s : RoomSizes). s.emu) c.requires)
-    (subst (λ (l : Left). TakesThree c.as_slice.result.now c.roms.result.now c.as_slice-2.result.now c.as_slice-3.result.now c.args.words.now c.take_three.new.into_first c.take_three.new.into_second c.take_three.new.into_third l) c.in-Ended.is c.in_ok-end.ensures))
+    c.state_widths.ensures
+    (c.as_slice-2.ensures.value ∙ ap (λ (s : RoomSizes). s.emu) c.requires)
+    (subst (λ (l : Left). TakesThree c.as_slice.result.now c.roms.result.now c.state_widths.result.now c.as_slice-2.result.now c.args.words.now c.take_three.new.into_first c.take_three.new.into_second c.take_three.new.into_third l) c.in-Ended.is c.in_ok-end.ensures))
 
 pub returns-then-branch-clause-run : goal.returns-then-branch-clause-run
 returns-then-branch-clause-run c p items =
     let v = c.args.dev.now in
     let t =
-    three-of c.as_slice.result.now c.roms.result.now c.as_slice-2.result.now c.as_slice-3.result.now _ _ _ _ c.args.words.now c.take_three.new.into_first c.take_three.new.into_second c.take_three.new.into_third (On c.in-On.left)
+    three-of c.as_slice.result.now c.roms.result.now c.state_widths.result.now c.as_slice-2.result.now _ _ _ _ c.args.words.now c.take_three.new.into_first c.take_three.new.into_second c.take_three.new.into_third (On c.in-On.left)
     (c.as_slice.ensures.value ∙ ap (λ (s : RoomSizes). s.fields) c.requires)
     c.roms.ensures
-    (c.as_slice-2.ensures.value ∙ ap (λ (s : RoomSizes). s.cells) c.requires)
-    (c.as_slice-3.ensures.value ∙ ap (λ (s : RoomSizes). s.emu) c.requires)
-    (subst (λ (l : Left). TakesThree c.as_slice.result.now c.roms.result.now c.as_slice-2.result.now c.as_slice-3.result.now c.args.words.now c.take_three.new.into_first c.take_three.new.into_second c.take_three.new.into_third l) c.in-On.is c.in_ok-end.ensures) in (
+    c.state_widths.ensures
+    (c.as_slice-2.ensures.value ∙ ap (λ (s : RoomSizes). s.emu) c.requires)
+    (subst (λ (l : Left). TakesThree c.as_slice.result.now c.roms.result.now c.state_widths.result.now c.as_slice-2.result.now c.args.words.now c.take_three.new.into_first c.take_three.new.into_second c.take_three.new.into_third l) c.in-On.is c.in_ok-end.ensures) in (
       ap (λ (st : State). fit (state_widths (cells_of v.circuit.lines)) st.cells) c.in_ok-holds.ensures.state ∙ t.1,
       enter-on v p c.args.condition.now items c.args.words.now c.take_three.new.into_first c.take_three.new.into_second c.take_three.new.into_third c.in-On.left.now t
           true (sym c.if-branch.true ∙ c.in_ok-holds.ensures.value) (state_in c.holds.new.self) c.in_ok-holds.ensures.state,
@@ -43,11 +43,11 @@ returns-then-branch-clause-run c p items =
 pub returns-else-branch-clause-run : goal.returns-else-branch-clause-run
 returns-else-branch-clause-run c p items =
     let t =
-    three-of c.as_slice.result.now c.roms.result.now c.as_slice-2.result.now c.as_slice-3.result.now _ _ _ _ c.args.words.now c.take_three.new.into_first c.take_three.new.into_second c.take_three.new.into_third (On c.in-On.left)
+    three-of c.as_slice.result.now c.roms.result.now c.state_widths.result.now c.as_slice-2.result.now _ _ _ _ c.args.words.now c.take_three.new.into_first c.take_three.new.into_second c.take_three.new.into_third (On c.in-On.left)
     (c.as_slice.ensures.value ∙ ap (λ (s : RoomSizes). s.fields) c.requires)
     c.roms.ensures
-    (c.as_slice-2.ensures.value ∙ ap (λ (s : RoomSizes). s.cells) c.requires)
-    (c.as_slice-3.ensures.value ∙ ap (λ (s : RoomSizes). s.emu) c.requires)
-    (subst (λ (l : Left). TakesThree c.as_slice.result.now c.roms.result.now c.as_slice-2.result.now c.as_slice-3.result.now c.args.words.now c.take_three.new.into_first c.take_three.new.into_second c.take_three.new.into_third l) c.in-On.is c.in_ok-end.ensures) in
+    c.state_widths.ensures
+    (c.as_slice-2.ensures.value ∙ ap (λ (s : RoomSizes). s.emu) c.requires)
+    (subst (λ (l : Left). TakesThree c.as_slice.result.now c.roms.result.now c.state_widths.result.now c.as_slice-2.result.now c.args.words.now c.take_three.new.into_first c.take_three.new.into_second c.take_three.new.into_third l) c.in-On.is c.in_ok-end.ensures) in
     enter-on c.args.dev.now p c.args.condition.now items c.args.words.now c.take_three.new.into_first c.take_three.new.into_second c.take_three.new.into_third c.in-On.left.now t
     false (sym c.if-branch.false ∙ c.in_ok-holds.ensures.value) (state_in c.holds.new.self) c.in_ok-holds.ensures.state

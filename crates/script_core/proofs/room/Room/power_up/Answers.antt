@@ -1,8 +1,9 @@
 use Rattle.std.proofs.Common.{◌∙◌, ap, sym, subst, false}
 use Rattle.knox_words.specs.Lists.{fit}
 use Rattle.knox_theory.specs.Script.{State}
-use Rattle.circuit_meaning.specs.Circuit.{cells_of, state_widths}
-use Rattle.circuit_meaning.specs.Power.{states_of, noise_widths, spread_words, state_after_power}
+use Rattle.knox_words.specs.Lists.{merge, zeros_or}
+use Rattle.knox_circuit.specs.Cells.{cells_of, state_widths, noise_widths, keep_mask}
+use Rattle.knox_circuit.specs.Circuit.{state_after_power}
 use Rattle.device_design.specs.Roms.{known_fit}
 use Rattle.script_core.specs.declared.run.Left.{Left}
 use Rattle.script_core.specs.declared.run.Left.TheVariants.{On, Ended}
@@ -63,7 +64,7 @@ cycle_power-requires-clause-noise c =
     (c.as_slice-3.ensures.value ∙ ap (λ (s : RoomSizes). s.persistent) c.requires)
     (c.as_slice-4.ensures.value ∙ ap (λ (s : RoomSizes). s.noise) c.requires)
     (subst (λ (l : Left). TakesThree c.as_slice.result.now c.as_slice-2.result.now c.as_slice-3.result.now c.as_slice-4.result.now c.args.words.now c.take_three.new.into_first c.take_three.new.into_second c.take_three.new.into_third l) c.in-On.is c.in_ok-end.ensures) in
-    ap (fit (noise_widths (states_of v.circuit.lines) v.driver.keep)) c.in_ok-is_refined.ensures.noise ∙ t.3
+    ap (fit (noise_widths v.circuit.lines v.driver.keep)) c.in_ok-is_refined.ensures.noise ∙ t.3
 
 pub returns-clause-run : goal.returns-clause-run
 returns-clause-run c =
@@ -81,7 +82,7 @@ returns-clause-run c =
     (c.as_slice-4.ensures.value ∙ ap (λ (s : RoomSizes). s.noise) c.requires)
     (subst (λ (l : Left). TakesThree c.as_slice.result.now c.as_slice-2.result.now c.as_slice-3.result.now c.as_slice-4.result.now c.args.words.now c.take_three.new.into_first c.take_three.new.into_second c.take_three.new.into_third l) c.in-On.is c.in_ok-end.ensures) in (
       cycled.fit,
-      cycled.cells ∙ (λ i. state_after_power v.circuit.lines keep ((refined.spread ∙ ap (spread_words cells keep) (sym kept)) i) (sym cycled.noise i)),
+      cycled.cells ∙ (λ i. state_after_power v.circuit.lines keep ((refined.spread ∙ ap (merge (keep_mask cells keep) (zeros_or (state_widths cells))) (sym kept)) i) (sym cycled.noise i)),
       powers-on v c.args.sc.now c.args.words.now c.take_three.new.into_first c.take_three.new.into_second c.take_three.new.into_third c.in-On.left.now _ _ _ t
           (sym refined.value ∙ c.if-not-branch.false)
           (cycled.fields ∙ ap (λ (st : State). st.fields) refined.state)

@@ -1,6 +1,6 @@
 use Rattle.std.proofs.Common.{◌∙◌, ap}
 use Rattle.knox_words.specs.Lists.{Words, fit}
-use Rattle.circuit_meaning.specs.Circuit.{cells_of, state_widths}
+use Rattle.knox_circuit.specs.Cells.{cells_of, state_widths}
 use Rattle.emu_machine.specs.Emulator.{emulator_after_tick, fields_after_tick}
 use Rattle.script_core.specs.Rooms.{state_in}
 use Rattle.script_core.proofs.Projections.{both-ticked}

@@ -1,6 +1,6 @@
 use Rattle.std.proofs.Common.{◌∙◌, ap, subst, []}
 use Rattle.knox_words.specs.Lists.{Words}
-use Rattle.circuit_meaning.specs.Circuit.{state_after_tick}
+use Rattle.knox_circuit.specs.Circuit.{state_after_tick}
 use Rattle.script_core.specs.declared.run.Left.{Left}
 use Rattle.script_core.specs.Hints.{seen, holds}
 use Rattle.script_core.specs.Reached.{Idles}

@@ -1,0 +1,12 @@
+pub mod FitLemmas
+pub mod SuitsLemmas
+pub mod StatesLemmas
+pub mod WidthsLemmas
+pub mod PowerLemmas
+pub mod LinesLemmas
+pub mod TickLemmas
+pub mod ByCellLemmas
+pub mod RomLemmas
+pub mod KnownLemmas
+pub mod KeptLemmas
+pub mod CircuitLemmas

@@ -1,4 +1,0 @@
-pub mod Taken
-pub mod Walk
-pub mod Widths
-pub mod Tables

@@ -1,4 +1,0 @@
-pub mod Lookup
-pub mod Layers
-pub mod Memory
-pub mod Examples

@@ -1,5 +1,0 @@
-use Rattle.line_read.proofs.Meant.{one-thing, of-tokens}
-use Rattle.line_read.proofs.laws.lines_say_one_thing.Goals as goal
-
-pub returns : goal.returns
-returns c = record { one = one-thing; of_tokens = of-tokens }

@@ -1,8 +1,0 @@
-pub mod Tokens
-pub mod Numbers
-pub mod Keywords
-pub mod Grammar
-pub mod Faults
-pub mod Steps
-pub mod Meaning
-pub mod Examples

@@ -1,4 +1,0 @@
-pub mod Rows
-pub mod Meaning
-pub mod Reading
-pub mod Examples
