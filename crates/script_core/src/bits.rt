@@ -1,7 +1,7 @@
 //! The bits that the widest run of a segment takes.
-ghost use Rattle.std.specs.Prelude.{◌≡◌, ◌+◌, length, slice_get, Some, IfOk, if◌then◌else◌};
+ghost use Rattle.std.specs.Prelude.{◌≡◌, ℕ, ◌+◌, length, slice_get, Some, take, drop, replicate, if◌then◌else◌};
 ghost use Rattle.knox_words.specs.Lists.{total, pick};
-ghost use Rattle.knox_circuit.specs.Cells.{noise_widths};
+ghost use Rattle.knox_circuit.specs.Cells.{noise_widths, keep_mask, first_keep, size};
 ghost use Rattle.knox_circuit.specs.Ports.{input_widths};
 ghost use Rattle.knox_lang.specs.Operation.{arg_widths};
 ghost use Rattle.knox_lang.specs.WellFormed.{word_widths};
@@ -16,9 +16,9 @@ ghost use Rattle.script_core.specs.Runs.{segments_of, bits_at, counted};
 use crate::parts::{Act, Item, Kind, Root, SegmentNo};
 use crate::script::Script;
 use emu_machine::Device;
+use knox_circuit::Cell;
 use knox_lang::OpHead;
 use knox_words::Word;
-use std::alloc::{AllocError, Global};
 
 #[tactic(auto, using(crate::proofs::Counting::sums))]
 fn bits_of_words(words: &[Word]) -> u64
@@ -142,32 +142,108 @@ fn cell_bits(dev: &Device) -> u64
     bits_of_taken(dev.circuit.free_mask(), dev.circuit.state_widths())
 }
 
-/// The bits of the noise words of a power-cycle that keeps some cells.
-fn noise_bits(dev: &Device, keep: &[bool]) -> Result<u64, AllocError>
-    ensures { IfOk result (λ n. n ≡ counted (total (noise_widths dev.now.circuit.lines keep.now))) }
+/// How many words a word or an array with indices of this width has, up to 2^64 - 1.
+fn words_of(index: Option<u8>) -> u64
+    ensures { result ≡ counted (size index) }
 {
-    let widths = dev.circuit.noise_widths(keep)?;
-    Ok(bits_of(widths.as_slice()))
+    let mut words = 1u64;
+    for _ in 0..index.unwrap_or(0) {
+        words = words.saturating_add(words);
+    }
+    words
 }
 
-fn kept_bits(alloc: Global, dev: &Device) -> Result<u64, AllocError>
-    ensures { IfOk result (λ n. n ≡ counted (total (kept_taken dev.now))) }
+/// The bits of a state's words.
+fn state_bits(cell: &Cell) -> u64
+    ensures { result ≡ counted (total (replicate (size cell.now.index) cell.now.width)) }
 {
-    let keep = dev.driver.keep();
-    let mask = dev.circuit.keep_mask(keep)?;
-    let free = knox_words::pick(alloc, mask.as_slice(), dev.circuit.free_mask())?;
-    let widths = dev.circuit.persistent_widths(keep)?;
-    Ok(bits_of_taken(free.as_slice(), widths.as_slice()))
+    u64::from(cell.width).saturating_mul(words_of(cell.index))
+}
+
+/// The bits of the noise words of a power-cycle that keeps some cells.
+#[tactic(auto, using(crate::proofs::Counting::sums))]
+fn noise_bits(dev: &Device, keep: &[bool]) -> u64
+    ensures { result ≡ counted (total (noise_widths dev.now.circuit.lines keep.now)) }
+{
+    let mut sum = 0u64;
+    let mut states = dev.circuit.noise_walk(keep);
+    while let Some(state) = states.next() {
+        sum = sum.saturating_add(state_bits(state.cell));
+    }
+    sum
+}
+
+/// The first entries of a list, this many or all, and those behind them.
+fn cut<T>(list: &[T], count: u64) -> (&[T], &[T])
+    ensures { (n : ℕ) → count ≡ counted n → (result.0.now ≡ take n list.now) × (result.1.now ≡ drop n list.now) }
+{
+    let most = list.len() as u64;
+    list.split_at(count.min(most) as usize)
+}
+
+/// The first of some marks, and those behind it; none is no mark.
+fn first_mark(marks: &[bool]) -> (bool, &[bool])
+    ensures first { result.0 ≡ first_keep marks.now }
+    ensures rest { result.1.now ≡ drop 1 marks.now }
+{
+    match marks.split_first() {
+        Some((mark, others)) => (*mark, others),
+        None => (false, marks),
+    }
+}
+
+/// The bits of a cell's words that are no ROM words, if it is kept.
+fn bits_where(kept: bool, free: &[bool], widths: &[u8]) -> u64
+    ensures { result ≡ (if kept then counted (total (pick free.now widths.now)) else 0) }
+{
+    if kept {
+        return bits_of_taken(free, widths);
+    }
+    0
+}
+
+/// The bits of the words of the cells that are kept, but for ROM words: `free` marks the device words
+/// that are none.
+fn bits_of_kept(cells: &[Cell], keep: &[bool], free: &[bool], widths: &[u8]) -> u64
+    ensures { result ≡ counted (total (pick (pick (keep_mask cells.now keep.now) free.now) (pick (keep_mask cells.now keep.now) widths.now))) }
+{
+    let mut sum = 0u64;
+    let mut left = cells;
+    let mut marks = keep;
+    let mut beyond = free;
+    let mut sizes = widths;
+    while let Some((cell, more)) = left.split_first() {
+        let words = words_of(cell.index);
+        let (own, other_marks) = cut(beyond, words);
+        let (its, other_widths) = cut(sizes, words);
+        let (kept, others) = first_mark(marks);
+        sum = sum.saturating_add(bits_where(kept, own, its));
+        left = more;
+        marks = others;
+        beyond = other_marks;
+        sizes = other_widths;
+    }
+    sum
+}
+
+fn kept_bits(dev: &Device) -> u64
+    ensures { result ≡ counted (total (kept_taken dev.now)) }
+{
+    let circuit = &dev.circuit;
+    bits_of_kept(
+        circuit.cells(),
+        dev.driver.keep(),
+        circuit.free_mask(),
+        circuit.state_widths(),
+    )
 }
 
 /// Before a power-cycle: the fields, the cells that are kept but for ROM words, and the noise.
-fn power_bits(alloc: Global, dev: &Device) -> Result<u64, AllocError>
-    ensures { IfOk result (λ n. n ≡ counted (total (word_widths dev.now.spec.init) + (total (kept_taken dev.now) + total (noise_widths dev.now.circuit.lines dev.now.driver.keep)))) }
+fn power_bits(dev: &Device) -> u64
+    ensures { result ≡ counted (total (word_widths dev.now.spec.init) + (total (kept_taken dev.now) + total (noise_widths dev.now.circuit.lines dev.now.driver.keep))) }
 {
-    let kept = kept_bits(alloc, dev)?;
-    let noise = noise_bits(dev, dev.driver.keep())?;
-    let words = kept.saturating_add(noise);
-    Ok(field_bits(dev).saturating_add(words))
+    let words = kept_bits(dev).saturating_add(noise_bits(dev, dev.driver.keep()));
+    field_bits(dev).saturating_add(words)
 }
 
 /// Between host calls: the fields and all cells but for ROM words.
@@ -185,11 +261,10 @@ fn item_bits(dev: &Device, items: &[Item]) -> u64
 }
 
 /// Of the segment of `wire`: those before a power-cycle, and those of its items.
-fn wire_bits(alloc: Global, dev: &Device, sc: &Script) -> Result<u64, AllocError>
-    ensures { IfOk result (λ n. n ≡ counted (kind_bits dev.now sc.now Wire)) }
+fn wire_bits(dev: &Device, sc: &Script) -> u64
+    ensures { result ≡ counted (kind_bits dev.now sc.now Wire) }
 {
-    let before = power_bits(alloc, dev)?;
-    Ok(before.saturating_add(item_bits(dev, sc.wire())))
+    power_bits(dev).saturating_add(item_bits(dev, sc.wire()))
 }
 
 /// Of the segment of a call: those between host calls, and the arguments.
@@ -199,25 +274,16 @@ fn call_bits(dev: &Device, op: u32) -> u64
     idle_bits(dev).saturating_add(argument_bits(dev, op))
 }
 
-/// Of the segment of a section. `Err` is want of memory.
-fn kind_bits(alloc: Global, dev: &Device, sc: &Script, kind: Kind) -> Result<u64, AllocError>
-    ensures { IfOk result (λ n. n ≡ counted (kind_bits dev.now sc.now kind)) }
+/// Of the segment of a section.
+fn kind_bits(dev: &Device, sc: &Script, kind: Kind) -> u64
+    ensures { result ≡ counted (kind_bits dev.now sc.now kind) }
 {
     match kind {
-        Kind::Factory => {
-            let noise = noise_bits(dev, &[])?;
-            Ok(noise)
-        }
-        Kind::BootHost => {
-            let power = power_bits(alloc, dev)?;
-            Ok(power)
-        }
-        Kind::Rest | Kind::Wait => Ok(idle_bits(dev)),
-        Kind::Call(op) => Ok(call_bits(dev, op)),
-        Kind::Wire => {
-            let wire = wire_bits(alloc, dev, sc)?;
-            Ok(wire)
-        }
+        Kind::Factory => noise_bits(dev, &[]),
+        Kind::BootHost => power_bits(dev),
+        Kind::Rest | Kind::Wait => idle_bits(dev),
+        Kind::Call(op) => call_bits(dev, op),
+        Kind::Wire => wire_bits(dev, sc),
     }
 }
 
@@ -230,23 +296,15 @@ fn cut_bits(dev: &Device, sc: &Script) -> u64
     words.saturating_add(item_bits(dev, sc.behind_cut()))
 }
 
-/// The bits that the widest run of a segment takes, up to 2^64 - 1. `Err` is want of memory.
-pub fn choice_bits(
-    alloc: Global,
-    dev: &Device,
-    sc: &Script,
-    g: SegmentNo,
-) -> Result<u64, AllocError>
+/// The bits that the widest run of a segment takes, up to 2^64 - 1.
+pub fn choice_bits(dev: &Device, sc: &Script, g: SegmentNo) -> u64
     requires of { length dev.now.spec.ops ≡ ops_of sc.now }
-    ensures { IfOk result (λ n. n ≡ counted (bits_at (segments_of dev.now.circuit dev.now.spec dev.now.driver dev.now.emulator sc.now) g.0)) }
+    ensures { result ≡ counted (bits_at (segments_of dev.now.circuit dev.now.spec dev.now.driver dev.now.emulator sc.now) g.0) }
 {
     let _parts = sc.parts();
     match sc.root_of(g) {
-        Some(Root::OfKind(kind)) => {
-            let bits = kind_bits(alloc, dev, sc, kind)?;
-            Ok(bits)
-        }
-        Some(Root::OfCut) => Ok(cut_bits(dev, sc)),
-        None => Ok(0),
+        Some(Root::OfKind(kind)) => kind_bits(dev, sc, kind),
+        Some(Root::OfCut) => cut_bits(dev, sc),
+        None => 0,
     }
 }

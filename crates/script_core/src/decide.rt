@@ -157,7 +157,7 @@ pub fn plain_decide(
 {
     let mut room = Room::new(alloc, dev)?;
     let mut front = Words::new(alloc);
-    let bits = choice_bits(alloc, dev, sc, g)? as u32;
+    let bits = choice_bits(dev, sc, g) as u32;
     let found = search(alloc, dev, sc, g, &mut front, bits, &mut room)?;
     Ok(plain_of(found, front))
 }
@@ -177,7 +177,7 @@ pub fn check(alloc: Global, dev: &Device, sc: &Script, g: SegmentNo) -> Result<C
     requires of { length dev.now.spec.ops ≡ ops_of sc.now }
     ensures { IfOk result (λ checked. Checks (course_at (segments_of dev.now.circuit dev.now.spec dev.now.driver dev.now.emulator sc.now) g.0) (hint_at (segments_of dev.now.circuit dev.now.spec dev.now.driver dev.now.emulator sc.now) g.0) (counted (bits_at (segments_of dev.now.circuit dev.now.spec dev.now.driver dev.now.emulator sc.now) g.0)) checked) }
 {
-    let bits = choice_bits(alloc, dev, sc, g)?;
+    let bits = choice_bits(dev, sc, g);
     if bits > u64::from(MOST_BITS) {
         return Ok(Checked::TooWide(sc.hint_of(g), bits));
     }

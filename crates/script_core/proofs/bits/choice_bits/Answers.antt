@@ -5,9 +5,9 @@ use Rattle.script_core.proofs.Formed.{fits-for}
 use Rattle.script_core.proofs.Rooted.{root-bits}
 use Rattle.script_core.proofs.bits.choice_bits.Goals as goal
 
-pub returns-in_ok-bits-in-Some-OfKind : goal.returns-in_ok-bits-in-Some-OfKind
-returns-in_ok-bits-in-Some-OfKind c =
-    c.in_ok-bits-in-Some-OfKind.ensures
+pub returns-in-Some-OfKind : goal.returns-in-Some-OfKind
+returns-in-Some-OfKind c =
+    c.kind_bits.ensures
     ∙ ap counted (sym (root-bits c.args.dev.now c.args.sc.now (fits-for _ c.args.sc.now c.requires.of c.parts-parts.ensures.form) c.args.g.0
     ∙ ap (root_bits c.args.dev.now c.args.sc.now) (sym c.root_of.ensures ∙ (c.in-Some-OfKind.is ∙ ap (λ r. Some r) c.in-Some-OfKind.field-0-is))))
 

@@ -8,5 +8,5 @@ use Rattle.script_core.proofs.bits.wire_bits.Goals as goal
 
 pub returns : goal.returns
 returns c =
-    wire-counted c.args.dev.now c.args.sc.now _ _ _ c.in_ok-before.ensures
+    wire-counted c.args.dev.now c.args.sc.now _ _ _ c.power_bits.ensures
     (c.item_bits.ensures ∙ ap (λ is. counted (items_bits (counted (total (input_widths c.args.dev.now.circuit.lines))) is)) c.wire.ensures) c.saturating_add.ensures
