@@ -5,7 +5,7 @@ use Rattle.knox_words.specs.Bits.{Bits}
 use Rattle.knox_words.specs.Lists.{pick, merge, zeros_or}
 use Rattle.knox_theory.specs.Device.{Device}
 use Rattle.knox_theory.specs.Design.{Design}
-use Rattle.circuit_table.specs.declared.line.Line.{Line}
+use Rattle.knox_circuit.specs.Line.{Line}
 use Rattle.knox_circuit.specs.Circuit.{Circuit, output_words, state_after_tick, factory_state, state_after_power}
 use Rattle.knox_circuit.specs.Ports.{input_widths}
 use Rattle.knox_circuit.specs.Rom.{rom_words}

@@ -4,7 +4,7 @@ use Rattle.knox_words.specs.Lists.{Words}
 use Rattle.knox_theory.specs.Device.{Replied, OutOfTurns}
 use Rattle.knox_theory.specs.Device as theory
 use Rattle.knox_theory.specs.Design.{Config}
-use Rattle.circuit_table.specs.declared.line.Line.{Line}
+use Rattle.knox_circuit.specs.Line.{Line}
 use Rattle.knox_lang.specs.declared.expr.Expr.{Expr}
 use Rattle.knox_lang.specs.declared.parts.DriverParts.{DriverParts}
 use Rattle.driver_machine.specs.declared.reply.Reply.{Reply}

@@ -4,7 +4,7 @@ use Rattle.knox_words.specs.Bits.{Bits}
 use Rattle.knox_words.specs.Lists.{Words, fit, fits}
 use Rattle.knox_words.proofs.Lists.{fit-slice_set}
 use Rattle.knox_theory.specs.Design.{Config}
-use Rattle.circuit_table.specs.declared.line.Line.{Line}
+use Rattle.knox_circuit.specs.Line.{Line}
 use Rattle.knox_circuit.specs.Circuit.{output_words, state_after_tick}
 use Rattle.knox_circuit.specs.Cells.{cells_of, state_widths, words_in}
 use Rattle.knox_circuit.specs.Ports.{input_widths, output_widths}

@@ -6,7 +6,7 @@ use Rattle.knox_words.specs.Lists.{Words, fit, fits, are_widths}
 use Rattle.knox_words.proofs.Lists.{fits-width, fit-slice_set}
 use Rattle.knox_theory.specs.Design.{Config, Design}
 use Rattle.knox_theory.specs.Lawful.{IsDriver}
-use Rattle.circuit_table.specs.declared.line.Line.{Line}
+use Rattle.knox_circuit.specs.Line.{Line}
 use Rattle.knox_circuit.specs.Cells.{cells_of, state_widths}
 use Rattle.knox_circuit.specs.Ports.{input_widths, output_widths}
 use Rattle.knox_circuit.specs.Rom.{rom_words, fits_state}

@@ -3,7 +3,7 @@ use Rattle.std.proofs.Common.{◌≡◌, ℕ, zero, suc, ◌-◌, ◌≤◌, Lis
 use Rattle.knox_words.specs.Lists.{Words}
 use Rattle.knox_theory.specs.Device.{Reply}
 use Rattle.knox_theory.specs.Design.{Config, Design, go, finish}
-use Rattle.circuit_table.specs.declared.line.Line.{Line}
+use Rattle.knox_circuit.specs.Line.{Line}
 use Rattle.knox_lang.specs.declared.parts.DriverParts.{DriverParts}
 use Rattle.driver_machine.specs.Left.{Left, Rest, Over, step, step_ticks, step_tests, is_over, ended, reply}
 use Rattle.driver_machine.specs.Moves.{IsMove, steps, steps_tests, has_tick, has_early_tick, parts_left, until_tick, tests_until_tick, move, move_tests}

@@ -6,7 +6,7 @@ use Rattle.knox_words.specs.Lists.{Words, fit, fits, are_widths}
 use Rattle.knox_words.proofs.Lists.{fit-both, fits-from, fits-width, is_word-IsWord}
 use Rattle.knox_lang.specs.declared.expr.Stmt.{Stmt, out-Stmt, fold_out-Stmt, map-Stmt}
 use Rattle.knox_lang.specs.declared.expr.Stmt.TheOpen.{Stmt-F}
-use Rattle.circuit_table.specs.declared.line.Line.{Line}
+use Rattle.knox_circuit.specs.Line.{Line}
 use Rattle.knox_lang.specs.declared.parts.OpHead.{OpHead}
 use Rattle.knox_lang.specs.declared.parts.Body.{Body}
 use Rattle.knox_lang.specs.declared.parts.DriverParts.{DriverParts}

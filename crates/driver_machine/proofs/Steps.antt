@@ -2,7 +2,7 @@
 use Rattle.std.proofs.Common.{◌≡◌, List, Option, Some, None, slice_get, refl, sym, ◌∙◌, ap, subst}
 use Rattle.knox_words.specs.Bits.{Bits}
 use Rattle.knox_words.specs.Lists.{Words}
-use Rattle.circuit_table.specs.declared.line.Line.{Line}
+use Rattle.knox_circuit.specs.Line.{Line}
 use Rattle.knox_lang.specs.declared.expr.Expr.{Expr}
 use Rattle.knox_lang.specs.declared.expr.Stmt.{Stmt}
 use Rattle.knox_lang.specs.declared.parts.Fun.{Fun}

@@ -2,7 +2,7 @@
 use Rattle.std.proofs.Common.{◌≡◌, ℕ, zero, suc, ◌≤◌, List, [], ◌++◌, append_assoc, append-nil, Bool, refl, sym, ◌∙◌, ap, subst, arith}
 use Rattle.knox_words.specs.Lists.{Words}
 use Rattle.knox_theory.specs.Design.{Config, Design, go_tests, finish_tests}
-use Rattle.circuit_table.specs.declared.line.Line.{Line}
+use Rattle.knox_circuit.specs.Line.{Line}
 use Rattle.knox_lang.specs.declared.parts.DriverParts.{DriverParts}
 use Rattle.driver_machine.specs.Left.{Left, Rest, Over, step, step_tests}
 use Rattle.driver_machine.specs.Moves.{steps, steps_tests, parts_left, move, move_tests}

@@ -4,7 +4,7 @@ use Rattle.knox_words.specs.Bits.{Bits, bits}
 use Rattle.knox_words.specs.Lists.{Words, total}
 use Rattle.knox_words.specs.declared.op.Op1.TheVariants.{Not}
 use Rattle.knox_theory.specs.Device.{Replied}
-use Rattle.circuit_table.specs.declared.line.Line.{Line}
+use Rattle.knox_circuit.specs.Line.{Line}
 use Rattle.knox_circuit.specs.Circuit.{state_after_tick}
 use Rattle.knox_lang.specs.declared.expr.Space.TheVariants as space
 use Rattle.knox_lang.specs.declared.expr.Expr.{Expr}

@@ -4,7 +4,7 @@ use Rattle.std.specs.Prelude.{ℕ, ◌&&◌, List, [], ◌∷◌, length, slice_
 use Rattle.knox_words.specs.Lists.{fit, fits}
 use Rattle.knox_theory.specs.Device.{Reply, Replied, OutOfTurns}
 use Rattle.knox_theory.specs.Design.{Config}
-use Rattle.circuit_table.specs.declared.line.Line.{Line}
+use Rattle.knox_circuit.specs.Line.{Line}
 use Rattle.knox_circuit.specs.Ports.{input_widths}
 use Rattle.knox_circuit.specs.Rom.{fits_state}
 use Rattle.knox_lang.specs.declared.parts.OpHead.{OpHead}

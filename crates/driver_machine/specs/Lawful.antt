@@ -3,7 +3,7 @@
 use Rattle.std.specs.Prelude.{◌≡◌, ◌<◌, ℕ, List, slice_get, Some, true}
 use Rattle.knox_words.specs.Lists.{Words}
 use Rattle.knox_theory.specs.Design.{Design, Config, Fits}
-use Rattle.circuit_table.specs.declared.line.Line.{Line}
+use Rattle.knox_circuit.specs.Line.{Line}
 use Rattle.knox_circuit.specs.Rom.{fits_state}
 use Rattle.knox_lang.specs.declared.parts.OpHead.{OpHead}
 use Rattle.knox_lang.specs.declared.parts.DriverParts.{DriverParts}

@@ -3,7 +3,7 @@
 use Rattle.std.specs.Prelude.{◌≡◌, ℕ, zero, suc, ◌+◌, ◌*◌, ◌||◌, List, [], ◌∷◌, ◌++◌, map, Bool, true, false, if◌then◌else◌}
 use Rattle.knox_words.specs.Lists.{total}
 use Rattle.knox_theory.specs.Design.{Config}
-use Rattle.circuit_table.specs.declared.line.Line.{Line}
+use Rattle.knox_circuit.specs.Line.{Line}
 use Rattle.knox_lang.specs.declared.expr.Stmt.{Stmt, fold-Stmt}
 use Rattle.knox_lang.specs.declared.expr.Stmt.TheOpen.{Stmt-F}
 use Rattle.knox_lang.specs.declared.parts.DriverParts.{DriverParts}

@@ -2,7 +2,7 @@
 use Rattle.std.specs.Prelude.{ℕ, List, Bool}
 use Rattle.knox_words.specs.Lists.{Words}
 use Rattle.knox_theory.specs.Design.{Config}
-use Rattle.circuit_table.specs.declared.line.Line.{Line}
+use Rattle.knox_circuit.specs.Line.{Line}
 use Rattle.knox_lang.specs.declared.parts.DriverParts.{DriverParts}
 use Rattle.driver_machine.specs.Left.{Left, start}
 use Rattle.driver_machine.specs.Moves.{parts_left, steps_tests}

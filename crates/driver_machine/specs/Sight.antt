@@ -3,7 +3,7 @@
 use Rattle.std.specs.Prelude.{ℕ, ◌+◌, ◌==◌, List, [], slice_set, Option, Some, None, Bool}
 use Rattle.knox_words.specs.Bits.{Bits, bits}
 use Rattle.knox_words.specs.Lists.{Words}
-use Rattle.circuit_table.specs.declared.line.Line.{Line}
+use Rattle.knox_circuit.specs.Line.{Line}
 use Rattle.knox_circuit.specs.Circuit.{output_words}
 use Rattle.knox_lang.specs.declared.scope.Spaces.{Spaces}
 use Rattle.knox_lang.specs.declared.expr.Expr.{Expr}

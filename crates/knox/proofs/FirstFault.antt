@@ -1,7 +1,7 @@
 -- A run over five texts of which the circuit's has a first fault tells that fault.
 use Rattle.std.proofs.Common.{◌≡◌, ◌∙◌, ◌+◌, ℕ, List, [], ◌∷◌, ◌++◌, length, min, take, ap, sym, subst, inl, inr, ◌⊎◌, Option, Some, None, refl, arith}
 use Rattle.std.proofs.lemmas.List.{length-append, length-map, length-take}
-use Rattle.circuit_table.specs.declared.fault.BtorFault.{BtorFault}
+use Rattle.knox_circuit.specs.BtorFault.{BtorFault}
 use Rattle.btor_read.proofs.MeaningLemmas.{one-fault, faultless}
 use Rattle.knox_edge.specs.declared.shelf.ShelfEnd.{ShelfEnd}
 use Rattle.knox_edge.specs.Texts.{Bytes, Reads}

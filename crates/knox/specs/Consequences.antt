@@ -5,7 +5,7 @@ use Rattle.knox_edge.specs.Counts.{Rose}
 use Rattle.knox_edge.specs.Texts.{Bytes, Reads}
 use Rattle.knox.specs.declared.status.Status.{Status}
 use Rattle.knox.specs.declared.status.Status.TheVariants as status
-use Rattle.circuit_table.specs.declared.fault.BtorFault.{BtorFault}
+use Rattle.knox_circuit.specs.BtorFault.{BtorFault}
 use Rattle.btor_read.specs.Meaning.{FaultsAt}
 use Rattle.script_core.specs.declared.parts.HintNo.{HintNo}
 use Rattle.script_core.specs.declared.parts.Choices.{Choices}

@@ -2,8 +2,8 @@
 use Rattle.std.specs.Prelude.{ℕ, ◌++◌, codes}
 use Rattle.std.specs.Fmt.{decimal}
 use Rattle.knox_edge.specs.Texts.{Bytes}
-use Rattle.circuit_table.specs.declared.fault.Why.{Why}
-use Rattle.circuit_table.specs.declared.fault.Why.TheVariants as circuit
+use Rattle.knox_circuit.specs.Why.{Why}
+use Rattle.knox_circuit.specs.Why.TheVariants as circuit
 use Rattle.expr_read.specs.declared.faults.LangWhy.{LangWhy}
 use Rattle.expr_read.specs.declared.faults.LangWhy.TheVariants as lang
 use Rattle.script_read.specs.declared.fault.ScriptWhy.{ScriptWhy}

@@ -7,3 +7,7 @@ pub mod Cells
 pub mod Parts
 pub mod Rom
 pub mod Made
+pub use Rattle.circuit_table.specs.declared.line.Line
+pub use Rattle.circuit_table.specs.declared.line.Shape
+pub use Rattle.circuit_table.specs.declared.fault.Why
+pub use Rattle.circuit_table.specs.declared.fault.BtorFault

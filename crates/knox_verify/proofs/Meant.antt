@@ -6,13 +6,13 @@ use Rattle.knox_text.specs.Places.{start_of, end_of}
 use Rattle.knox_sexpr.specs.declared.tree.Tree.{Tree}
 use Rattle.knox_sexpr.specs.Grammar.{Means}
 use Rattle.knox_edge.specs.Texts.{Bytes}
-use Rattle.circuit_table.specs.declared.fault.Why.{Why}
-use Rattle.circuit_table.specs.declared.fault.Why.TheVariants as circuit
+use Rattle.knox_circuit.specs.Why.{Why}
+use Rattle.knox_circuit.specs.Why.TheVariants as circuit
 use Rattle.knox_circuit.specs.Circuit.{Circuit}
 use Rattle.knox_lang.specs.declared.parts.SpecParts.{SpecParts}
 use Rattle.knox_lang.specs.declared.parts.DriverParts.{DriverParts}
 use Rattle.knox_lang.specs.declared.parts.EmuParts.{EmuParts}
-use Rattle.circuit_table.specs.declared.fault.BtorFault.{BtorFault}
+use Rattle.knox_circuit.specs.BtorFault.{BtorFault}
 use Rattle.btor_read.specs.Meaning.{IsCircuit, FaultsAt}
 use Rattle.btor_read.proofs.MeaningLemmas.{one-fault, one-circuit, faultless}
 use Rattle.emu_machine.specs.Fits.{fits_device}

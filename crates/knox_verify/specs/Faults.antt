@@ -1,8 +1,8 @@
 -- Faults of texts as faults of the verifier: want of memory stays want of memory. Each fault of a circuit's text has a place. Of the other texts two faults have
 -- one already, a call that a driver's text lacks and a form that a text of hints lacks; every other one is that of a form that isn't built.
-use Rattle.circuit_table.specs.declared.fault.Why.{Why}
-use Rattle.circuit_table.specs.declared.fault.Why.TheVariants as circuit
-use Rattle.circuit_table.specs.declared.fault.BtorFault.{BtorFault}
+use Rattle.knox_circuit.specs.Why.{Why}
+use Rattle.knox_circuit.specs.Why.TheVariants as circuit
+use Rattle.knox_circuit.specs.BtorFault.{BtorFault}
 use Rattle.knox_sexpr.specs.declared.fault.SexprFault.{SexprFault}
 use Rattle.knox_sexpr.specs.declared.fault.SexprFault.TheVariants as tree
 use Rattle.expr_read.specs.declared.faults.LangWhy.{LangWhy}

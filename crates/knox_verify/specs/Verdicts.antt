@@ -10,7 +10,7 @@ use Rattle.knox_verify.specs.declared.verdict.TextWhy.TheVariants.{TooLong, Circ
 use Rattle.knox_verify.specs.declared.verdict.VerifyFault.{VerifyFault}
 use Rattle.knox_verify.specs.declared.verdict.VerifyFault.TheVariants.{Text, NotYet, Memory}
 use Rattle.knox_theory.specs.Closed.{Closed}
-use Rattle.circuit_table.specs.declared.fault.BtorFault.{BtorFault}
+use Rattle.knox_circuit.specs.BtorFault.{BtorFault}
 use Rattle.btor_read.specs.Meaning.{FaultsAt}
 use Rattle.expr_read.specs.declared.faults.LangFault.{LangFault}
 use Rattle.script_read.specs.declared.fault.ScriptFault.{ScriptFault}

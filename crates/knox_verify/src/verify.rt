@@ -1,6 +1,6 @@
 //! The verifier: five texts get their meaning, and then the script is decided segment by segment.
 ghost use Rattle.std.specs.Prelude.{◌≡◌, ◌≤◌, ◌⊎◌, length, None, IfOk, IfErr};
-ghost use Rattle.circuit_table.specs.declared.fault.BtorFault.{BtorFault};
+ghost use Rattle.knox_circuit.specs.BtorFault.{BtorFault};
 ghost use Rattle.btor_read.specs.Meaning.{FaultsAt};
 ghost use Rattle.expr_read.specs.declared.faults.LangFault.{LangFault};
 ghost use Rattle.script_read.specs.declared.fault.ScriptFault.{ScriptFault};

@@ -6,7 +6,7 @@ use Rattle.knox_theory.specs.Lawful.{IsDesign}
 use Rattle.knox_theory.specs.Script.{HostSections, Script, IsScript, HasCallLocations}
 use Rattle.knox_theory.proofs.Agreeing.{agree}
 use Rattle.knox_theory.proofs.Listed.{closed-host, closed-wires}
-use Rattle.circuit_table.specs.declared.line.Line.{Line}
+use Rattle.knox_circuit.specs.Line.{Line}
 use Rattle.knox_words.specs.Lists.{zeros_or}
 use Rattle.knox_words.proofs.PickLemmas.{fit-pick, fit-merge, pick-merge-fit}
 use Rattle.knox_circuit.specs.Cells.{cells_of, state_widths, keep_mask}

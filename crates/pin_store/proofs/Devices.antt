@@ -1,6 +1,6 @@
 -- Devices and designs of the store's programs on any lines are the plain ones.
 use Rattle.std.proofs.Common.{◌≡◌, ℕ, zero, suc, List, [], slice_get, refl}
-use Rattle.circuit_table.specs.declared.line.Line.{Line}
+use Rattle.knox_circuit.specs.Line.{Line}
 use Rattle.device_design.specs.Meaning.{device_of, design_of, head_args}
 use Rattle.pin_store.specs.Store.{spec, driver_with, emulator_with}
 use Rattle.pin_store.proofs.Plain.{args_of, plain_device, plain_design}

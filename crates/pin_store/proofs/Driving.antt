@@ -5,7 +5,7 @@ use Rattle.knox_words.specs.Ops.{op1_value}
 use Rattle.knox_words.specs.Lists.{Words}
 use Rattle.knox_words.specs.declared.op.Op1.TheVariants.{Not}
 use Rattle.knox_theory.specs.Device.{Reply, Replied}
-use Rattle.circuit_table.specs.declared.line.Line.{Line}
+use Rattle.knox_circuit.specs.Line.{Line}
 use Rattle.knox_circuit.specs.Circuit.{state_after_tick}
 use Rattle.knox_lang.specs.declared.expr.Expr.{Expr}
 use Rattle.knox_lang.specs.declared.expr.Expr.TheVariants as expr

@@ -6,7 +6,7 @@ use Rattle.knox_words.specs.declared.op.Op2.TheVariants.{Eq, And}
 use Rattle.knox_theory.specs.Script.{State, WireItems, Step, Cut, Subsume, Close, HostSections, Script}
 use Rattle.knox_circuit.specs.Cells.{cells_of, state_widths, keep_mask}
 use Rattle.knox_words.specs.Lists.{merge, zeros_or}
-use Rattle.circuit_table.specs.declared.line.Line.{Line}
+use Rattle.knox_circuit.specs.Line.{Line}
 use Rattle.knox_lang.specs.declared.expr.Expr.{Expr}
 use Rattle.knox_lang.specs.declared.expr.Expr.TheVariants as expr
 use Rattle.knox_lang.specs.declared.expr.Stmt.{Stmt}

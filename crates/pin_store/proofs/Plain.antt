@@ -7,7 +7,7 @@ use Rattle.knox_words.specs.declared.op.Op1.TheVariants.{Not}
 use Rattle.knox_words.specs.declared.op.Op2.TheVariants.{Eq}
 use Rattle.knox_theory.specs.Device.{Reply, Replied, OutOfTurns, Asking, Ask, Ended, Device}
 use Rattle.knox_theory.specs.Design.{Design}
-use Rattle.circuit_table.specs.declared.line.Line.{Line}
+use Rattle.knox_circuit.specs.Line.{Line}
 use Rattle.knox_circuit.specs.Cells.{cells_of, state_widths, noise_widths, keep_mask}
 use Rattle.knox_circuit.specs.Ports.{input_widths}
 use Rattle.knox_circuit.specs.Circuit.{output_words, state_after_tick, state_after_power, factory_state}

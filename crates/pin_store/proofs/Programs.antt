@@ -2,7 +2,7 @@
 use Rattle.std.proofs.Common.{◌≡◌, ℕ, List, ap, ◌∙◌}
 use Rattle.knox_words.specs.Lists.{Words}
 use Rattle.knox_theory.specs.Course.{End, run}
-use Rattle.circuit_table.specs.declared.line.Line.{Line}
+use Rattle.knox_circuit.specs.Line.{Line}
 use Rattle.emu_machine.specs.declared.device.Device.{Device}
 use Rattle.script_core.specs.declared.parts.ScriptParts.{ScriptParts}
 use Rattle.script_core.specs.Runs.{course_at, segments_of}

@@ -5,7 +5,7 @@ use Rattle.knox_theory.specs.declared.event.Event.{Event}
 use Rattle.knox_theory.specs.declared.event.Answer.{Answer}
 use Rattle.knox_theory.specs.Device.{Device}
 use Rattle.knox_theory.specs.Worlds.{real, ideal}
-use Rattle.circuit_table.specs.declared.line.Line.{Line}
+use Rattle.knox_circuit.specs.Line.{Line}
 use Rattle.device_design.specs.Meaning.{device_of}
 use Rattle.pin_store.specs.Store.{lines, shown, leaked, noisy_lines, spec, driver_with, emulator_with, device, impatient_device, noisy_device}
 use Rattle.pin_store.proofs.Plain.{plain_device, silence}

@@ -7,7 +7,7 @@ use Rattle.knox_theory.specs.Course.{End, Failed, run}
 use Rattle.knox_theory.specs.Script.{Script}
 use Rattle.knox_theory.specs.Segments.{Segment, segments}
 use Rattle.knox_theory.specs.Closed.{IsAmong, Falsifies}
-use Rattle.circuit_table.specs.declared.line.Line.{Line}
+use Rattle.knox_circuit.specs.Line.{Line}
 use Rattle.driver_machine.specs.Left.{Left}
 use Rattle.device_design.specs.Meaning.{design_of}
 use Rattle.script_core.specs.Hints.{script_of}

@@ -9,7 +9,7 @@ use Rattle.knox_theory.specs.WireSegments.{enters}
 use Rattle.knox_theory.specs.HostSegments.{is_reply, call_course}
 use Rattle.knox_theory.specs.Segments.{Segment, segments, wire_segment, cut_segment, factory_segment, boot_host_segment, rest_segment, wait_segment, call_segment}
 use Rattle.knox_theory.proofs.Basics.{and-left, and-right, and-both}
-use Rattle.circuit_table.specs.declared.line.Line.{Line}
+use Rattle.knox_circuit.specs.Line.{Line}
 use Rattle.knox_circuit.specs.Cells.{cells_of, state_widths}
 use Rattle.knox_circuit.specs.Rom.{rom_words, agree}
 use Rattle.device_design.specs.Roms.{known_fit}

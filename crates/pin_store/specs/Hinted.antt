@@ -9,7 +9,7 @@ use Rattle.knox_theory.specs.Course.{End, run}
 use Rattle.knox_theory.specs.Script.{Script}
 use Rattle.knox_theory.specs.Segments.{Segment, segments}
 use Rattle.knox_theory.specs.Traces.{trace_of}
-use Rattle.circuit_table.specs.declared.line.Line.{Line}
+use Rattle.knox_circuit.specs.Line.{Line}
 use Rattle.knox_lang.specs.declared.expr.Expr.{Expr}
 use Rattle.knox_lang.specs.declared.expr.Expr.TheVariants as expr
 use Rattle.knox_lang.specs.declared.expr.Space.TheVariants as space

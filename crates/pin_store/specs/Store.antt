@@ -7,9 +7,9 @@ use Rattle.knox_words.specs.declared.op.Op1.TheVariants.{Not, Redor}
 use Rattle.knox_words.specs.declared.op.Op2.TheVariants.{Eq, And}
 use Rattle.knox_theory.specs.Device.{Device}
 use Rattle.knox_theory.specs.Design.{Design}
-use Rattle.circuit_table.specs.declared.line.Shape.{Shape}
-use Rattle.circuit_table.specs.declared.line.Shape.TheVariants as shape
-use Rattle.circuit_table.specs.declared.line.Line.{Line}
+use Rattle.knox_circuit.specs.Shape.{Shape}
+use Rattle.knox_circuit.specs.Shape.TheVariants as shape
+use Rattle.knox_circuit.specs.Line.{Line}
 use Rattle.knox_circuit.specs.Circuit.{Circuit}
 use Rattle.knox_lang.specs.declared.expr.Expr.{Expr}
 use Rattle.knox_lang.specs.declared.expr.Expr.TheVariants as expr

@@ -1,7 +1,7 @@
 //! The program's runs on a device that is made of the parts of the store.
 ghost use Rattle.std.specs.Prelude.{◌≡◌, ℕ, List, length, IfOk};
 ghost use Rattle.knox_theory.specs.Course.{Failed, Held};
-ghost use Rattle.circuit_table.specs.declared.line.Line.{Line};
+ghost use Rattle.knox_circuit.specs.Line.{Line};
 ghost use Rattle.script_core.specs.Hints.{ops_of};
 ghost use Rattle.script_core.specs.Runs.{end_said};
 ghost use Rattle.pin_store.specs.Store.{leaked, shown};
