@@ -15,7 +15,7 @@ use Rattle.script_core.specs.declared.parts.Choices.{Choices}
 use Rattle.script_core.specs.declared.decide.Checked.{Checked}
 use Rattle.script_core.specs.declared.decide.Checked.TheVariants as checked
 use Rattle.script_core.specs.Decisions.{Falsifying, Checks}
-use Rattle.knox_verify.specs.Judgements.{Parts, design, hints, NarrowBefore, Narrow, Undecides, IsTooWide}
+use Rattle.knox_verify.specs.Judgements.{Parts, design, hints, NarrowBefore, Narrow, AllHold, Undecides, IsTooWide}
 
 -- where a segment stands on a list
 record Stands (g : Segment) (gs : List Segment) : Type 0 where
@@ -158,7 +158,7 @@ holds-held p n x there held is says =
     held-more (segments (design p) (hints p)) n there held known.0 known.1
 
 -- segments up to the last
-pub all-closed : (p : Parts) (n : ℕ) → length (segments (design p) (hints p)) ≤ n → HoldBelow (segments (design p) (hints p)) n → Closed (design p) (hints p) × Narrow p
+pub all-closed : (p : Parts) (n : ℕ) → length (segments (design p) (hints p)) ≤ n → HoldBelow (segments (design p) (hints p)) n → AllHold p
 all-closed p n all held =
     let held-all : HoldBelow (segments (design p) (hints p)) (length (segments (design p) (hints p))) = λ i x below there. held i x (omega (arith, below, all)) there in
-    (all-hold (design p) (hints p) held-all, all-narrow p held-all)
+    record { closed = all-hold (design p) (hints p) held-all; narrow = all-narrow p held-all }
