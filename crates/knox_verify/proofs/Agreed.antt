@@ -35,10 +35,10 @@ ok-same : (v w : Verdict) (r : Result Verdict VerifyFault) → r ≡ Ok v → r 
 ok-same v w r e f = cc
 
 of-yes : (t : FiveTexts) (p : Parts) (v : Verdict) → v ≡ Yes → Means t p → IsDesign (design p) → IsScript (design p) (hints p) → Decides p v → (q : Parts) × Means t q × Agree (device q)
-of-yes t p Yes yes m lawful script held = (p, m, closed-agrees p lawful script held.closed)
-of-yes t p (Undecided hint choices) yes m lawful script held = absurd cc
-of-yes t p (TooWide hint bits) yes m lawful script held = absurd cc
+of-yes t p Yes e m lawful script held = (p, m, closed-agrees p lawful script held.closed)
+of-yes t p (Undecided hint choices) e m lawful script held = absurd cc
+of-yes t p (TooWide hint bits) e m lawful script held = absurd cc
 
 -- where the verdict on parts that the texts mean is yes, the worlds agree
 pub yes-agrees : (t : FiveTexts) (p : Parts) (v : Verdict) → Means t p → IsDesign (design p) → IsScript (design p) (hints p) → Decides p v → (r : Result Verdict VerifyFault) → r ≡ Ok v → r ≡ Ok Yes → (q : Parts) × Means t q × Agree (device q)
-yes-agrees t p v m lawful script held r is yes = of-yes t p v (ok-same v Yes r is yes) m lawful script held
+yes-agrees t p v m lawful script held r is e = of-yes t p v (ok-same v Yes r is e) m lawful script held

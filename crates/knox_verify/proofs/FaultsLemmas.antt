@@ -203,12 +203,12 @@ first-told one t f (Err g) bad judged (inl e) = inr (ap Err e)
 first-told one t f (Err g) bad judged (inr told) = inl (ap Err (first-one one t g f told bad))
 
 not-decided : {G : Type 0} (p : Parts) (v : Verdict) → AllHold p → Decides p v → (v ≡ Yes → G) → G
-not-decided p Yes held says yes = yes refl
-not-decided p (Undecided hint choices) held says yes = absurd (held.closed.never hint.0 choices.words says.falsified)
-not-decided p (TooWide hint bits) held says yes =
+not-decided p Yes held says leads = leads refl
+not-decided p (Undecided hint choices) held says leads = absurd (held.closed.never hint.0 choices.words says.falsified)
+not-decided p (TooWide hint bits) held says leads =
     absurd (let low = held.narrow says.segment says.listed in let wide = says.wide in let counts = says.counts in omega (arith, low, wide, counts))
 
 pub yes-told : OneMeaning → (t : FiveTexts) (p : Parts) (r : Result Verdict VerifyFault) → Means t p → AllHold p → IfOk r (λ v. (p : Parts) × Means t p × Decides p v) → IfErr r (OrMemory (FirstFault t)) → (r ≡ Ok Yes) ⊎ (r ≡ Err Memory)
 yes-told one t p (Ok v) m held judged said =
     inl (ap Ok (not-decided p v held (subst (λ q. Decides q v) (means-one one t judged.0 p judged.1 m) judged.2) (λ e. e)))
-yes-told one t p (Err f) m held judged said = inr (ap Err (meant-memory one t p (Err f) m said))
+yes-told one t p (Err f) m held judged said = inr (ap Err (meant-memory {V = Verdict} one t p (Err f) m said))

@@ -5,12 +5,12 @@ use Rattle.knox_verify.proofs.meaning.device_of.Goals as goal
 
 pub returns-in_err-driver-clause-refused : goal.returns-in_err-driver-clause-refused
 returns-in_err-driver-clause-refused c h =
-    let said = of-driver (five c.args.c.now c.args.s.now c.args.d.now c.args.e.now h) _ _ c.in_err-driver.field-0 c.in_ok-circuit.ensures.meant c.in_ok-spec.ensures.meant c.in_err-driver.ensures.fault in
+    let said = of-driver (five c.args.c.now c.args.s.now c.args.d.now c.args.e.now h) _ _ _ c.in_ok-circuit.ensures.meant c.in_ok-spec.ensures.meant c.in_err-driver.ensures.fault in
     search (rules, said)
 
 pub returns-in_err-emulator-clause-refused : goal.returns-in_err-emulator-clause-refused
 returns-in_err-emulator-clause-refused c h =
-    let said = of-emulator (five c.args.c.now c.args.s.now c.args.d.now c.args.e.now h) _ _ _ c.in_err-emulator.field-0 c.in_ok-circuit.ensures.meant c.in_ok-spec.ensures.meant c.in_ok-driver.ensures.meant
+    let said = of-emulator (five c.args.c.now c.args.s.now c.args.d.now c.args.e.now h) _ _ _ _ c.in_ok-circuit.ensures.meant c.in_ok-spec.ensures.meant c.in_ok-driver.ensures.meant
         c.in_err-emulator.ensures.fault in
     search (rules, said)
 

@@ -8,7 +8,7 @@ use Rattle.knox_verify.proofs.verify.judge.Goals as goal
 
 pub returns-in_err-script-clause-refused : goal.returns-in_err-script-clause-refused
 returns-in_err-script-clause-refused c =
-    let said = of-script-text (five c.args.c.now c.args.s.now c.args.d.now c.args.e.now c.args.h.now) _ _ _ _ c.in_err-script.field-0 c.in_ok-dev.ensures.meant c.in_err-script.ensures.fault in
+    let said = of-script-text (five c.args.c.now c.args.s.now c.args.d.now c.args.e.now c.args.h.now) _ _ _ _ _ c.in_ok-dev.ensures.meant c.in_err-script.ensures.fault in
     search (rules, said)
 
 pub decide-requires : goal.decide-requires
