@@ -6,7 +6,7 @@ use Rattle.knox_theory.specs.Script.{IsScript}
 use Rattle.knox_theory.specs.Closed.{Closed}
 use Rattle.knox_theory.proofs.Agreeing.{agree}
 use Rattle.knox_theory.proofs.Listed.{closed-host, closed-wires}
-use Rattle.device_design.specs.Meaning.{device_of, design_of}
+use Rattle.device_design.specs.Meaning.{design_of}
 use Rattle.script_core.specs.Hints.{host_of, script_of}
 use Rattle.knox_verify.specs.declared.verdict.Verdict.{Verdict}
 use Rattle.knox_verify.specs.declared.verdict.Verdict.TheVariants.{Yes, Undecided, TooWide}

@@ -1,5 +1,5 @@
 -- The first fault of five texts is one, and none of texts that mean something.
-use Rattle.std.proofs.Common.{◌≡◌, ◌≢◌, ◌≤◌, ◌<◌, ◌⊎◌, inl, inr, ℕ, List, Bool, true, false, Result, Ok, Err, length, refl, sym, ◌∙◌, ap, subst, arith}
+use Rattle.std.proofs.Common.{◌≡◌, ◌≤◌, ◌<◌, ◌⊎◌, inl, inr, ℕ, List, Bool, true, false, Result, Ok, Err, length, refl, sym, ◌∙◌, ap, subst, arith}
 use Rattle.std.specs.Result.{IfOk, IfErr}
 use Rattle.knox_text.specs.declared.place.Place.{Place}
 use Rattle.knox_text.specs.Places.{start_of, end_of}
@@ -8,36 +8,24 @@ use Rattle.knox_sexpr.specs.Grammar as trees
 use Rattle.knox_sexpr.specs.declared.fault.SexprFault.{SexprFault}
 use Rattle.knox_sexpr.specs.declared.fault.SexprFault.TheVariants as tree
 use Rattle.knox_edge.specs.Texts.{Bytes, limit}
-use Rattle.circuit_table.specs.declared.fault.Why.{Why}
-use Rattle.circuit_table.specs.declared.fault.Why.TheVariants as circuit
-use Rattle.circuit_table.specs.declared.fault.BtorFault.{BtorFault}
 use Rattle.knox_circuit.specs.Circuit.{Circuit}
 use Rattle.knox_lang.specs.declared.parts.SpecParts.{SpecParts}
 use Rattle.knox_lang.specs.declared.parts.DriverParts.{DriverParts}
 use Rattle.knox_lang.specs.declared.parts.EmuParts.{EmuParts}
-use Rattle.btor_read.specs.Meaning.{FaultsAt}
 use Rattle.btor_read.proofs.MeaningLemmas.{one-fault, faultless}
 use Rattle.lang_read.specs.Specifications.{spec_text}
 use Rattle.lang_read.specs.Drivers.{driver_text}
 use Rattle.lang_read.specs.Emulators.{emulator_text}
 use Rattle.script_read.specs.Scripts.{script_text}
 use Rattle.emu_machine.specs.Fits.{fits_device}
-use Rattle.expr_read.specs.declared.faults.LangWhy.{LangWhy}
-use Rattle.expr_read.specs.declared.faults.LangWhy.TheVariants as lang
-use Rattle.expr_read.specs.declared.faults.LangFault.{LangFault}
-use Rattle.expr_read.specs.Views.{Fails}
-use Rattle.script_read.specs.declared.fault.ScriptWhy.{ScriptWhy}
-use Rattle.script_read.specs.declared.fault.ScriptWhy.TheVariants as script
-use Rattle.script_read.specs.declared.fault.ScriptFault.{ScriptFault}
-use Rattle.script_read.specs.Faults as hints
 use Rattle.knox_verify.specs.declared.verdict.VerifyFault.{VerifyFault}
 use Rattle.knox_verify.specs.declared.verdict.VerifyFault.TheVariants.{Text, NotYet, Memory}
 use Rattle.knox_verify.specs.declared.verdict.Letter.{Letter}
 use Rattle.knox_verify.specs.declared.verdict.Letter.TheVariants.{C, S, D, E, H}
 use Rattle.knox_verify.specs.declared.verdict.TextWhy.TheVariants as why
 use Rattle.knox_verify.specs.Judgements.{Parts, AllHold}
-use Rattle.knox_verify.specs.Meanings.{FiveTexts, five, MeansCircuit, Reads, MeansDevice, Means}
-use Rattle.knox_verify.specs.Faults.{of_circuit, of_circuit_why, of_trees, of_program, of_program_why, of_driver, of_driver_why, of_script, of_script_why, TreesFault, Refuses, TextFault, CircuitFault, Then, HintsFault, FirstFault, OrMemory}
+use Rattle.knox_verify.specs.Meanings.{FiveTexts, MeansCircuit, Reads, MeansDevice, Means}
+use Rattle.knox_verify.specs.Faults.{of_trees, of_program, of_driver, of_script, TreesFault, Refuses, TextFault, CircuitFault, Then, HintsFault, FirstFault, OrMemory}
 use Rattle.knox_verify.specs.declared.verdict.Verdict.{Verdict}
 use Rattle.knox_verify.specs.declared.verdict.Verdict.TheVariants.{Yes, Undecided, TooWide}
 use Rattle.knox_verify.specs.Verdicts.{Decides}

@@ -1,5 +1,5 @@
 -- What texts mean is one thing.
-use Rattle.std.proofs.Common.{◌≡◌, ℕ, List, Result, Ok, refl, ap, subst}
+use Rattle.std.proofs.Common.{◌≡◌, ℕ, List, Result, Ok, subst}
 use Rattle.knox_text.specs.declared.place.Place.{Place}
 use Rattle.knox_text.specs.Places.{start_of, end_of}
 use Rattle.knox_sexpr.specs.declared.tree.Tree.{Tree}
@@ -44,7 +44,7 @@ means-one one t p q m n =
     let s = reads-one spec_text t.s p.spec q.spec one m.device.spec_read n.device.spec_read in
     let d = reads-same (λ (k : Circuit × SpecParts). driver_text k.0 k.1) t.d (p.circuit, p.spec) (q.circuit, q.spec) p.driver q.driver one (λ i. (c i, s i)) m.device.driver_read n.device.driver_read in
     let e = reads-same (λ (k : Circuit × SpecParts × DriverParts). emulator_text k.0 k.1 k.2) t.e (p.circuit, p.spec, p.driver) (q.circuit, q.spec, q.driver) p.emulator q.emulator one
-        (λ i. (c i, s i, d i)) m.device.emulator_read n.device.emulator_read in
+    (λ i. (c i, s i, d i)) m.device.emulator_read n.device.emulator_read in
     let h = reads-same (λ (k : Circuit × SpecParts × DriverParts × EmuParts). script_text k.0 k.1 k.2 k.3) t.h (p.circuit, p.spec, p.driver, p.emulator) (q.circuit, q.spec, q.driver, q.emulator) p.script q.script one
-        (λ i. (c i, s i, d i, e i)) m.script n.script in
+    (λ i. (c i, s i, d i, e i)) m.script n.script in
     parts-same p q c s d e h

@@ -1,4 +1,5 @@
-use Rattle.std.proofs.Common.{rules, refl, sym, length}
+use Rattle.std.proofs.Common.{refl, sym, length}
+use Rattle.std.proofs.lemmas.Result.{err_from_is_err_and}
 use Rattle.script_core.proofs.Formed.{ops-are}
 use Rattle.knox_verify.specs.Judgements.{parts_of}
 use Rattle.knox_verify.specs.Meanings.{five}
@@ -8,8 +9,9 @@ use Rattle.knox_verify.proofs.verify.judge.Goals as goal
 
 pub returns-in_err-script-clause-refused : goal.returns-in_err-script-clause-refused
 returns-in_err-script-clause-refused c =
-    let said = of-script-text (five c.args.c.now c.args.s.now c.args.d.now c.args.e.now c.args.h.now) _ _ _ _ _ c.in_ok-dev.ensures.meant c.in_err-script.ensures.fault in
-    search (rules, said)
+    let p = err_from_is_err_and c.from_residual-in_err-script.result c.from_residual-in_err-script.ensures.1 in
+    let f = c.in_err-script.field-0.0 in
+    rw (p.1, p.2) (of-script-text (five c.args.c.now c.args.s.now c.args.d.now c.args.e.now c.args.h.now) _ _ _ _ f c.in_ok-dev.ensures.meant c.in_err-script.ensures.fault)
 
 pub decide-requires : goal.decide-requires
 decide-requires c =
