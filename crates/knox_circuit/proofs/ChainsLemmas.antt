@@ -1,5 +1,5 @@
 -- One step of a walk along a chain of writes, and words that are remembered of one.
-use Rattle.std.proofs.Common.{◌≡◌, ℕ, zero, suc, ◌+◌, ◌<◌, ◌≤◌, ◌==◌, List, [], ◌∷◌, Bool, true, false, Option, Some, None, length, replicate, slice_get, set, if◌then◌else◌, refl, sym, ◌∙◌, ap, subst, arith, add-one, eq-eqb, eqb-true, inl, inr}
+use Rattle.std.proofs.Common.{◌≡◌, ℕ, zero, suc, ◌+◌, ◌<◌, ◌≤◌, ◌==◌, List, [], ◌∷◌, Bool, true, false, Option, Some, None, length, replicate, slice_get, if◌then◌else◌, refl, sym, ◌∙◌, ap, subst, arith, add-one, eq-eqb, eqb-true, inl, inr}
 use Rattle.std.proofs.lemmas.Bool.{cases_lt}
 use Rattle.std.proofs.lemmas.List.{length-set, length-replicate}
 use Rattle.std.specs.Option.{option_or, IfSome}
