@@ -2,7 +2,7 @@ pub mod RowsLemmas
 pub mod PartsLemmas
 pub mod CellsLemmas
 pub mod StatesLemmas
-pub mod RomLemmas
+pub mod ChainsLemmas
 pub mod NamesLemmas
 pub mod TablesLemmas
 pub mod EvaluationLemmas

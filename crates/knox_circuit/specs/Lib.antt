@@ -1,6 +1,7 @@
 pub mod Circuit
 pub mod Names
 pub mod Links
+pub mod Chains
 pub mod Taken
 pub mod Ports
 pub mod Cells

@@ -2,8 +2,8 @@
 use Rattle.std.specs.Prelude.{◌≡◌, ℕ, ◌+◌, List, [], ◌∷◌, Option, Some, None}
 use Rattle.knox_words.specs.Bits.{Bits}
 use Rattle.circuit_nodes.specs.declared.node.Node.{Node}
-use Rattle.knox_circuit.specs.declared.rom.Link.{Link}
-use Rattle.knox_circuit.specs.declared.rom.Link.TheVariants as link
+use Rattle.knox_circuit.specs.declared.chains.Link.{Link}
+use Rattle.knox_circuit.specs.declared.chains.Link.TheVariants as link
 use Rattle.knox_circuit.specs.Rom.{Put, chain_at}
 
 abbrev pub with_put : ℕ → Bits → Option (List Put) → Option (List Put)

@@ -3,6 +3,7 @@
 //! resolved lines, `specs/Cells.antt` the states, `specs/Rom.antt` ROM words. Evaluation takes no memory.
 #![tactic(auto)]
 
+mod chains;
 mod circuit;
 mod draft;
 mod evaluation;

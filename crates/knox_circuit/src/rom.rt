@@ -1,107 +1,23 @@
-//! ROM words: one walk from the operand of an `init` down to the base of its chain of writes.
-ghost use Rattle.std.specs.Prelude.{◌≡◌, ◌<◌, ◌≤◌, ◌++◌, [], is_some, Some, None, replicate, length, slice_get, IfOk, OnOk, if◌then◌else◌};
-ghost use Rattle.knox_circuit.specs.Rom.{node_word, constant, put_under, chain_at, laid, known_or, init_known, is_itself, rom_of, roms_among, is_known, agree, free_mask};
-ghost use Rattle.knox_circuit.specs.Links.{Links};
+//! ROM words: those that the chain of writes of an `init` gives a cell that keeps itself.
+ghost use Rattle.std.specs.Prelude.{◌≡◌, ◌++◌, [], is_some, Some, None, replicate, length, IfOk, OnOk, if◌then◌else◌};
+ghost use Rattle.knox_circuit.specs.Rom.{constant, chain_at, laid, known_or, init_known, is_itself, rom_of, roms_among, is_known, agree, free_mask};
+ghost use Rattle.knox_circuit.specs.Chains.{AreFound};
 
+use crate::chains::{Chains, constant};
 use circuit_nodes::{Arg, Next, Node, State};
 use knox_words::Word;
 use std::alloc::{AllocError, Global};
-
-/// What a node is in a chain: a bare state, a write of a constant word at a constant index over the
-/// array at a place, or neither.
-pub(crate) enum Link {
-    Base,
-    Write(u128, Word, u32),
-    Broken,
-}
-
-/// The word of an operand that is a constant before a place.
-fn constant(nodes: &[Node], bound: usize, arg: Arg) -> Option<Word>
-    ensures { result ≡ constant bound nodes.now arg }
-{
-    if arg.complement {
-        return None;
-    }
-    let at = arg.node as usize;
-    if at >= bound || at >= nodes.len() {
-        return None;
-    }
-    match &nodes[at] {
-        Node::Const(word) => Some(*word),
-        _ => None,
-    }
-}
-
-/// What the node at a place is in a chain.
-#[tactic(auto, using(crate::proofs::RomLemmas::link_steps))]
-fn link_of(cells: u32, nodes: &[Node], at: usize) -> Link
-    requires { at < length nodes.now }
-    ensures { Links cells nodes.now at result }
-{
-    match &nodes[at] {
-        Node::Array { first, .. } => {
-            if cells <= *first {
-                Link::Base
-            } else {
-                Link::Broken
-            }
-        }
-        Node::Write(array, index, word) => {
-            let Some(index) = constant(nodes, at, *index) else {
-                return Link::Broken;
-            };
-            let Some(word) = constant(nodes, at, *word) else {
-                return Link::Broken;
-            };
-            Link::Write(index.value(), word, *array)
-        }
-        _ => Link::Broken,
-    }
-}
-
-/// Sets the word at an index, where there is one and none is known yet.
-fn put_under(known: &mut [Option<Word>], index: u128, word: Word)
-    ensures { known.new ≡ put_under known.old index word }
-{
-    if index >= known.len() as u128 {
-        return;
-    }
-    let at = index as usize;
-    if known[at].is_none() {
-        known[at] = Some(word);
-    }
-}
-
-/// Walks from a node to the base of its chain, and puts the words of the writes on the way under those
-/// that are known. Whether there is such a chain; else what is known is of no use.
-#[tactic(auto, using(crate::proofs::RomLemmas::walk_steps))]
-fn walk(cells: u32, nodes: &[Node], node: u32, known: &mut [Option<Word>]) -> bool
-    ensures { laid known.old (chain_at cells nodes.now (length nodes.now) node) ≡ (if result then Some known.new else None) }
-{
-    let mut at = node as usize;
-    let mut before = nodes.len();
-    while at < before {
-        match link_of(cells, nodes, at) {
-            Link::Base => return true,
-            Link::Broken => return false,
-            Link::Write(index, word, array) => {
-                put_under(known, index, word);
-                before = at;
-                at = array as usize;
-            }
-        }
-    }
-    false
-}
 
 /// What is known of so many words by an `init`.
 fn init_known(
     alloc: Global,
     cells: u32,
     nodes: &[Node],
+    chains: &Chains,
     words: u32,
     init: Option<Next>,
 ) -> Result<Vec<Option<Word>>, AllocError>
+    requires { AreFound cells nodes.now chains.now }
     ensures { IfOk result (λ known. known.items ≡ init_known cells nodes.now words init) }
 {
     let count = words as usize;
@@ -110,7 +26,7 @@ fn init_known(
         Some(Next::Word(arg)) => Ok(vec![in alloc; constant(nodes, nodes.len(), arg); count]?),
         Some(Next::Array { node, .. }) => {
             let mut known = vec![in alloc; None; count]?;
-            if walk(cells, nodes, node, &mut known) {
+            if chains.walk(cells, nodes, node, &mut known) {
                 return Ok(known);
             }
             Ok(vec![in alloc; None; count]?)
@@ -133,12 +49,14 @@ fn rom_of(
     alloc: Global,
     cells: u32,
     nodes: &[Node],
+    chains: &Chains,
     state: &State,
 ) -> Result<Vec<Option<Word>>, AllocError>
+    requires { AreFound cells nodes.now chains.now }
     ensures { IfOk result (λ known. known.items ≡ rom_of cells nodes.now state.now) }
 {
     if is_itself(state.node, state.next) {
-        init_known(alloc, cells, nodes, state.words, state.init)
+        init_known(alloc, cells, nodes, chains, state.words, state.init)
     } else {
         Ok(vec![in alloc; None; state.words as usize]?)
     }
@@ -150,15 +68,58 @@ fn push_roms(
     roms: &mut Vec<Option<Word>>,
     cells: u32,
     nodes: &[Node],
+    chains: &Chains,
     state: &State,
 ) -> Result<(), AllocError>
+    requires { AreFound cells nodes.now chains.now }
     ensures { OnOk result (roms.new.items ≡ roms.old.items ++ (if is_some state.now.next then rom_of cells nodes.now state.now else [])) }
 {
     if state.next.is_some() {
-        let known = rom_of(alloc, cells, nodes, state)?;
+        let known = rom_of(alloc, cells, nodes, chains, state)?;
         roms.extend_from_slice(known.as_slice())?;
     }
     Ok(())
+}
+
+/// The node and the count of words of an `init` by an array, where a cell keeps itself.
+fn wanted(state: &State) -> Option<(u32, u32)> {
+    if !is_itself(state.node, state.next) {
+        return None;
+    }
+    match state.init {
+        Some(Next::Array { node, .. }) => Some((node, state.words)),
+        _ => None,
+    }
+}
+
+/// The nodes from which chains are wanted, each with its count of words, the lowest node first.
+fn all_wanted(alloc: Global, states: &[State]) -> Result<Vec<(u32, u32)>, AllocError> {
+    let mut all = Vec::new(alloc);
+    for state in states {
+        if let Some(entry) = wanted(state) {
+            all.push(entry)?;
+        }
+    }
+    all.sort_unstable();
+    Ok(all)
+}
+
+/// What the chains of cells give. An operand stands before its node, so that from the lowest node to
+/// the highest each walk ends where an earlier one began.
+fn chains_of(
+    alloc: Global,
+    cells: u32,
+    nodes: &[Node],
+    states: &[State],
+) -> Result<Chains, AllocError>
+    ensures { IfOk result (λ chains. AreFound cells nodes.now chains) }
+{
+    let all = all_wanted(alloc, states)?;
+    let mut chains = Chains::new(alloc);
+    for (node, words) in all.as_slice() {
+        chains.remember(alloc, cells, nodes, *node, *words)?;
+    }
+    Ok(chains)
 }
 
 /// The ROM words of the cells among some states.
@@ -170,10 +131,11 @@ pub(crate) fn roms_among(
 ) -> Result<Vec<Option<Word>>, AllocError>
     ensures { IfOk result (λ roms. roms.items ≡ roms_among cells nodes.now states.now) }
 {
+    let chains = chains_of(alloc, cells, nodes, states)?;
     let mut roms = Vec::new(alloc);
     let mut left = states;
     while let Some((state, others)) = left.split_first() {
-        push_roms(alloc, &mut roms, cells, nodes, state)?;
+        push_roms(alloc, &mut roms, cells, nodes, &chains, state)?;
         left = others;
     }
     Ok(roms)
