@@ -8,7 +8,6 @@ use Rattle.std.proofs.lemmas.List.{append-nil}
 use Rattle.knox_cnf.specs.Literals.{Literal, complement, same_literal, has}
 use Rattle.lrat_check.proofs.LiteralLemmas.{same_literal-true, has-push}
 use Rattle.lrat_check.specs.declared.step.Step.{Step}
-use Rattle.lrat_check.specs.declared.step.Step.TheVariants.{Memory}
 use Rattle.lrat_check.specs.Marks.{with_true, all_with_true, Extends}
 use Rattle.lrat_check.specs.Hints.{after_clause, then_on, after_hints, take_hints, is_tautology, check, Takes, Answers}
 

@@ -183,7 +183,7 @@ get-true v (x ∷ cs) (suc k) c a e =
     let p = and_parts (clause_true v x) (clauses_true v cs) a in
     get-true v cs k c p.1 e
 
-at-true : (v : ℕ → Bool) (cs : List (List Literal)) (o : Option ℕ) (c : List Literal) → clauses_true v cs ≡ true → clause_at cs o ≡ Some c → clause_true v c ≡ true
+pub at-true : (v : ℕ → Bool) (cs : List (List Literal)) (o : Option ℕ) (c : List Literal) → clauses_true v cs ≡ true → clause_at cs o ≡ Some c → clause_true v c ≡ true
 at-true v cs None c a e = absurd (cc)
 at-true v cs (Some p) c a e = get-true v cs p c a e
 
@@ -269,7 +269,7 @@ cond-at : (cs : List (List Literal)) (b : Bool) (p : ℕ) (c : List Literal) →
 cond-at cs true p c e = e
 cond-at cs false p c e = absurd (cc)
 
-at-more : (cs : List (List Literal)) (live : List Bool) (o : Option ℕ) (c : List Literal) → clause_at cs (if_live live o) ≡ Some c → clause_at cs o ≡ Some c
+pub at-more : (cs : List (List Literal)) (live : List Bool) (o : Option ℕ) (c : List Literal) → clause_at cs (if_live live o) ≡ Some c → clause_at cs o ≡ Some c
 at-more cs live None c e = e
 at-more cs live (Some p) c e = cond-at cs (get_or live p false) p c e
 

@@ -3,7 +3,7 @@
 -- ends the check, and one with a single literal that isn't false makes it true.
 -- The project's own: a literal that is true already may be the single one, and a lemma with complementary
 -- literals passes at once.
-use Rattle.std.specs.Prelude.{ℕ, Bool, true, false, cond, List, [], ◌∷◌, ◌++◌, Option, Some, None, Result, Ok, Err, ℤ, pos, negsuc, unsigned_abs, map, ◌≡◌, ◌⊎◌}
+use Rattle.std.specs.Prelude.{ℕ, Bool, true, false, cond, List, [], ◌∷◌, Option, Some, None, Result, Ok, Err, ℤ, pos, negsuc, unsigned_abs, map, ◌≡◌, ◌⊎◌}
 use Rattle.std.specs.List.{list_any}
 use Rattle.knox_cnf.specs.Literals.{Literal, complement, has}
 use Rattle.lrat_check.specs.declared.reading.Reading.{Reading}

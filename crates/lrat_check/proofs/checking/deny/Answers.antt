@@ -1,4 +1,4 @@
-use Rattle.std.proofs.Common.{◌≡◌, ◌∙◌, ap, rules, get_or, sym, arith, length}
+use Rattle.std.proofs.Common.{◌≡◌, ◌∙◌, rules, get_or, sym, arith, length}
 use Rattle.knox_cnf.specs.Literals.{complement}
 use Rattle.lrat_check.specs.Marks.{with_true}
 use Rattle.lrat_check.proofs.HintSteps.{deny-more, deny-end, Extends-with, Extends-then}

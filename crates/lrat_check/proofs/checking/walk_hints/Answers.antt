@@ -1,8 +1,8 @@
-use Rattle.std.proofs.Common.{◌≡◌, ◌∙◌, ap, rules, get_or, sym, Ok, Err, true, subst, arith}
+use Rattle.std.proofs.Common.{◌≡◌, ◌∙◌, ap, rules, get_or, sym, Ok, Err, subst, arith}
 use Rattle.std.specs.Prelude.{pos, unsigned_abs}
 use Rattle.lrat_check.specs.Hints.{Takes}
 use Rattle.lrat_check.specs.Derivations.{clauses_with, live_in}
-use Rattle.lrat_check.proofs.HintSteps.{hint-more, hint-true, hint-Err, Extends-then}
+use Rattle.lrat_check.proofs.HintSteps.{hint-more, hint-Err, Extends-then}
 use Rattle.lrat_check.proofs.checking.walk_hints.Goals as goal
 
 pub loop-hint-preserved : goal.loop-hint-preserved
