@@ -5,7 +5,7 @@ use sqlite_items::Items;
 use std::alloc::Global;
 use std::test::Fail;
 
-fn lits(alloc: Global, numbers: &[i64]) -> Result<Items<Lit>, Fail> {
+pub fn lits(alloc: Global, numbers: &[i64]) -> Result<Items<Lit>, Fail> {
     let mut lits = Items::new(alloc);
     for number in numbers {
         lits.push(Lit::new(*number).ok_or("a number of a literal")?)?;
@@ -14,7 +14,7 @@ fn lits(alloc: Global, numbers: &[i64]) -> Result<Items<Lit>, Fail> {
 }
 
 /// Each of the four clauses over two variables.
-fn formula(alloc: Global) -> Result<Cnf, Fail> {
+pub fn formula(alloc: Global) -> Result<Cnf, Fail> {
     let mut clauses = Items::new(alloc);
     let rows: [[i64; 2]; 4] = [[1, 2], [-1, 2], [1, -2], [-1, -2]];
     for row in rows {

@@ -1,4 +1,4 @@
-//! Formulas, derivations and the texts of both.
+//! Formulas, derivations, refutations and their texts.
 //! This crate has tests alone, so that no crate that is tested is proved a second time with them.
 #![tactic(auto)]
 
@@ -6,5 +6,7 @@
 mod derivations;
 #[cfg(test)]
 mod formulas;
+#[cfg(test)]
+mod refutations;
 #[cfg(test)]
 mod texts;

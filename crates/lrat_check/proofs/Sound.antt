@@ -12,9 +12,10 @@ use Rattle.lrat_check.specs.declared.reading.Reading.{Reading}
 use Rattle.lrat_check.specs.declared.reading.Reading.TheVariants.{False, Unit as Forced, Other}
 use Rattle.lrat_check.specs.declared.step.Step.{Step}
 use Rattle.lrat_check.specs.declared.lemma.Lemma.{Lemma}
+use Rattle.lrat_check.specs.Marks.{with_true, all_with_true}
 use Rattle.lrat_check.specs.Reading.{open_literals, reading_of_open, reading_of}
 use Rattle.lrat_check.specs.Register.{if_live, place_of}
-use Rattle.lrat_check.specs.Hints.{after_reading, after_clause, go_on, take_hints, is_tautology, check}
+use Rattle.lrat_check.specs.Hints.{after_reading, after_clause, then_on, after_hints, ended, take_hints, is_tautology, check}
 use Rattle.lrat_check.specs.Derivations.{Proof, lemma, lits_of, clauses_with, entries_with, clause_at, clause_of, live_clause, passed, passes, lrup, IsLrup, is_empty, is_closed}
 use Rattle.lrat_check.specs.Soundness.{LemmasFollow, IsUnsatisfiable}
 
@@ -31,10 +32,10 @@ complement-sign : (v : ℕ → Bool) (n : ℕ) (p : Bool) → literal_true v (co
 complement-sign v n true = refl
 complement-sign v n false = not_not (v n)
 
-literal_true-complement : (v : ℕ → Bool) (l : Literal) → literal_true v (complement l) ≡ not (literal_true v l)
+pub literal_true-complement : (v : ℕ → Bool) (l : Literal) → literal_true v (complement l) ≡ not (literal_true v l)
 literal_true-complement v l = complement-sign v l.var l.positive
 
-member-true : (v : ℕ → Bool) (t : List Literal) (l : Literal) → all_true v t ≡ true → has t l ≡ true → literal_true v l ≡ true
+pub member-true : (v : ℕ → Bool) (t : List Literal) (l : Literal) → all_true v t ≡ true → has t l ≡ true → literal_true v l ≡ true
 member-true v [] l a h = absurd (true≢false (sym h))
 member-true v (x ∷ t) l a h =
     let p = and_parts (literal_true v x) (all_true v t) a in
@@ -97,31 +98,56 @@ all_true-push : (v : ℕ → Bool) (t : List Literal) (l : Literal) → all_true
 all_true-push v t l a h =
     list_all-append (literal_true v) t (l ∷ []) ∙ and_from (all_true v t) (literal_true v l && true) a (and_from (literal_true v l) true h refl)
 
-reading-sound : (v : ℕ → Bool) (t : List Literal) (h : ℕ) (c : List Literal) (r : Reading) → all_true v t ≡ true → clause_true v c ≡ true → (rest : List Literal → Result (Unit {0}) Step) → ((u : List Literal) → all_true v u ≡ true → rest u ≡ Ok tt → ⊥) → reading_of t c ≡ r → go_on (after_reading t h r) rest ≡ Ok tt → ⊥
-reading-sound v t h c False a k rest s e o = reading-False v (open_literals t c) e (open-true v t c a k)
-reading-sound v t h c (Forced l) a k rest s e o =
-    let f : literal_true v l ≡ true = reading-Forced v (open_literals t c) l e (open-true v t c a k) in
-    s (cond (has t l) t (t ++ l ∷ []))
-    (cond_both (has t l) t (t ++ l ∷ []) (λ u. all_true v u ≡ true) (λ _. a) (λ _. all_true-push v t l a f)) o
-reading-sound v t h c Other a k rest s e o = cc
+-- hints make nothing true that isn't, and no clause that is true false
+abbrev pub Holds : (ℕ → Bool) → Result (List Literal) (Result (Unit {0}) Step) → Type 0
+Holds v (Ok u) = all_true v u ≡ true
+Holds v (Err (Ok x)) = ⊥
+Holds v (Err (Err e)) = Unit {0}
 
-clause-sound : (v : ℕ → Bool) (t : List Literal) (h : ℕ) (c : Option (List Literal)) → all_true v t ≡ true → ((d : List Literal) → c ≡ Some d → clause_true v d ≡ true) → (rest : List Literal → Result (Unit {0}) Step) → ((u : List Literal) → all_true v u ≡ true → rest u ≡ Ok tt → ⊥) → go_on (after_clause t h c) rest ≡ Ok tt → ⊥
-clause-sound v t h None a k rest s o = cc
-clause-sound v t h (Some d) a k rest s o = reading-sound v t h d (reading_of t d) a (k d refl) rest s refl o
+reading-holds : (v : ℕ → Bool) (t : List Literal) (h : ℕ) (c : List Literal) (r : Reading) → all_true v t ≡ true → clause_true v c ≡ true → reading_of t c ≡ r → Holds v (after_reading t h r)
+reading-holds v t h c False a k e = reading-False v (open_literals t c) e (open-true v t c a k)
+reading-holds v t h c (Forced l) a k e =
+    let f : literal_true v l ≡ true = reading-Forced v (open_literals t c) l e (open-true v t c a k) in
+    cond_both (has t l) t (t ++ l ∷ []) (λ u. all_true v u ≡ true) (λ _. a) (λ _. all_true-push v t l a f)
+reading-holds v t h c Other a k e = tt
+
+clause-holds : (v : ℕ → Bool) (t : List Literal) (h : ℕ) (c : Option (List Literal)) → all_true v t ≡ true → ((d : List Literal) → c ≡ Some d → clause_true v d ≡ true) → Holds v (after_clause t h c)
+clause-holds v t h None a k = tt
+clause-holds v t h (Some d) a k = reading-holds v t h d (reading_of t d) a (k d refl) refl
+
+then-holds : (v : ℕ → Bool) (r : Result (List Literal) (Result (Unit {0}) Step)) (rest : List Literal → Result (List Literal) (Result (Unit {0}) Step)) → Holds v r → ((u : List Literal) → all_true v u ≡ true → Holds v (rest u)) → Holds v (then_on r rest)
+then-holds v (Ok u) rest h k = k u h
+then-holds v (Err (Ok x)) rest h k = h
+then-holds v (Err (Err e)) rest h k = tt
+
+pub hints-hold : (v : ℕ → Bool) (clause : ℕ → Option (List Literal)) → ((id : ℕ) (c : List Literal) → clause id ≡ Some c → clause_true v c ≡ true) → (t : List Literal) (hs : List ℤ) → all_true v t ≡ true → Holds v (after_hints clause t hs)
+hints-hold v clause k t [] a = a
+hints-hold v clause k t (h ∷ hs) a =
+    then-holds v (after_clause t (unsigned_abs h) (clause (unsigned_abs h))) (λ u. after_hints clause u hs)
+    (clause-holds v t (unsigned_abs h) (clause (unsigned_abs h)) a (k (unsigned_abs h))) (λ u b. hints-hold v clause k u hs b)
+
+ended-sound : (v : ℕ → Bool) (r : Result (List Literal) (Result (Unit {0}) Step)) → Holds v r → ended r ≡ Ok tt → ⊥
+ended-sound v (Ok u) h e = cc
+ended-sound v (Err (Ok x)) h e = h
+ended-sound v (Err (Err s)) h e = cc
 
 hints-sound : (v : ℕ → Bool) (clause : ℕ → Option (List Literal)) → ((id : ℕ) (c : List Literal) → clause id ≡ Some c → clause_true v c ≡ true) → (t : List Literal) (hs : List ℤ) → all_true v t ≡ true → take_hints clause t hs ≡ Ok tt → ⊥
-hints-sound v clause k t [] a o = cc
-hints-sound v clause k t (h ∷ hs) a o =
-    clause-sound v t (unsigned_abs h) (clause (unsigned_abs h)) a (k (unsigned_abs h)) (λ u. take_hints clause u hs) (λ u b. hints-sound v clause k u hs b) o
+hints-sound v clause k t hs a o = ended-sound v (after_hints clause t hs) (hints-hold v clause k t hs a) o
 
 -- where no literal of a clause is true, each complement is
-complements-true : (v : ℕ → Bool) (c : List Literal) → clause_true v c ≡ false → all_true v (map complement c) ≡ true
+pub complements-true : (v : ℕ → Bool) (c : List Literal) → clause_true v c ≡ false → all_true v (map complement c) ≡ true
 complements-true v [] e = refl
 complements-true v (x ∷ c) e =
     let p = or_parts (literal_true v x) (clause_true v c) e in
     and_from (literal_true v (complement x)) (all_true v (map complement c)) (literal_true-complement v x ∙ ap not p.0) (complements-true v c p.1)
 
-any-implies : (p q : Literal → Bool) → ((x : Literal) → p x ≡ true → q x ≡ true) → (xs : List Literal) → list_any p xs ≡ true → list_any q xs ≡ true
+pub all-with-true : (v : ℕ → Bool) (t ls : List Literal) → all_true v t ≡ true → all_true v ls ≡ true → all_true v (all_with_true t ls) ≡ true
+all-with-true v t [] a b = a
+all-with-true v t (l ∷ ls) a b =
+    let p = and_parts (literal_true v l) (all_true v ls) b in
+    all-with-true v (with_true t l) ls (cond_both (has t l) t (t ++ l ∷ []) (λ u. all_true v u ≡ true) (λ _. a) (λ _. all_true-push v t l a p.0)) p.1
+
+pub any-implies : (p q : Literal → Bool) → ((x : Literal) → p x ≡ true → q x ≡ true) → (xs : List Literal) → list_any p xs ≡ true → list_any q xs ≡ true
 any-implies p q k [] h = h
 any-implies p q k (x ∷ xs) h =
     elim (or_cases (p x) (list_any p xs) h) [
@@ -141,7 +167,7 @@ check-sound v clause k lits hs o =
           (let a : all_true v (map complement lits) ≡ true = complements-true v lits e in
           elim (cases_Bool (is_tautology lits)) [
             | inl b ↦ any-implies (has (map complement lits)) (literal_true v) (λ x. member-true v (map complement lits) x a) lits b
-            | inr b ↦ absurd (hints-sound v clause k (map complement lits) hs a (check-cond (is_tautology lits) (take_hints clause (map complement lits) hs) o b))
+            | inr b ↦ absurd (hints-sound v clause k (all_with_true [] (map complement lits)) hs (all-with-true v [] (map complement lits) refl a) (check-cond (is_tautology lits) (take_hints clause (all_with_true [] (map complement lits)) hs) o b))
           ])
     ]
 
@@ -157,7 +183,7 @@ get-true v (x ∷ cs) (suc k) c a e =
     let p = and_parts (clause_true v x) (clauses_true v cs) a in
     get-true v cs k c p.1 e
 
-at-true : (v : ℕ → Bool) (cs : List (List Literal)) (o : Option ℕ) (c : List Literal) → clauses_true v cs ≡ true → clause_at cs o ≡ Some c → clause_true v c ≡ true
+pub at-true : (v : ℕ → Bool) (cs : List (List Literal)) (o : Option ℕ) (c : List Literal) → clauses_true v cs ≡ true → clause_at cs o ≡ Some c → clause_true v c ≡ true
 at-true v cs None c a e = absurd (cc)
 at-true v cs (Some p) c a e = get-true v cs p c a e
 
@@ -201,19 +227,39 @@ lrup-push cs before (x ∷ ms) m =
 
 -- ---- more clauses to look at keep a success
 
-reading-more : (t : List Literal) (h : ℕ) (r : Reading) (f g : List Literal → Result (Unit {0}) Step) → ((u : List Literal) → f u ≡ Ok tt → g u ≡ Ok tt) → go_on (after_reading t h r) f ≡ Ok tt → go_on (after_reading t h r) g ≡ Ok tt
-reading-more t h False f g k e = refl
-reading-more t h (Forced l) f g k e = k (cond (has t l) t (t ++ l ∷ [])) e
-reading-more t h Other f g k e = e
+-- what hints do is done again
+abbrev Again : Result (List Literal) (Result (Unit {0}) Step) → Result (List Literal) (Result (Unit {0}) Step) → Type 0
+Again (Ok u) s = s ≡ Ok u
+Again (Err (Ok x)) s = s ≡ Err (Ok tt)
+Again (Err (Err e)) s = Unit {0}
 
-clause-more : (t : List Literal) (h : ℕ) (a b : Option (List Literal)) (f g : List Literal → Result (Unit {0}) Step) → ((u : List Literal) → f u ≡ Ok tt → g u ≡ Ok tt) → ((c : List Literal) → a ≡ Some c → b ≡ Some c) → go_on (after_clause t h a) f ≡ Ok tt → go_on (after_clause t h b) g ≡ Ok tt
-clause-more t h None b f g k m e = absurd (cc)
-clause-more t h (Some c) b f g k m e = rw (m c refl) (reading-more t h (reading_of t c) f g k e)
+again-same : (r : Result (List Literal) (Result (Unit {0}) Step)) → Again r r
+again-same (Ok u) = refl
+again-same (Err (Ok x)) = refl
+again-same (Err (Err e)) = tt
+
+clause-again : (t : List Literal) (h : ℕ) (a b : Option (List Literal)) → ((c : List Literal) → a ≡ Some c → b ≡ Some c) → Again (after_clause t h a) (after_clause t h b)
+clause-again t h None b m = tt
+clause-again t h (Some c) b m = rw (m c refl) (again-same (after_reading t h (reading_of t c)))
+
+then-again : (r s : Result (List Literal) (Result (Unit {0}) Step)) (f g : List Literal → Result (List Literal) (Result (Unit {0}) Step)) → Again r s → ((u : List Literal) → Again (f u) (g u)) → Again (then_on r f) (then_on s g)
+then-again (Ok u) s f g e k = rw e (k u)
+then-again (Err (Ok x)) s f g e k = rw e refl
+then-again (Err (Err o)) s f g e k = tt
+
+hints-again : (clause more : ℕ → Option (List Literal)) → ((id : ℕ) (c : List Literal) → clause id ≡ Some c → more id ≡ Some c) → (t : List Literal) (hs : List ℤ) → Again (after_hints clause t hs) (after_hints more t hs)
+hints-again clause more k t [] = refl
+hints-again clause more k t (h ∷ hs) =
+    then-again (after_clause t (unsigned_abs h) (clause (unsigned_abs h))) (after_clause t (unsigned_abs h) (more (unsigned_abs h))) (λ u. after_hints clause u hs) (λ u. after_hints more u hs)
+    (clause-again t (unsigned_abs h) (clause (unsigned_abs h)) (more (unsigned_abs h)) (k (unsigned_abs h))) (λ u. hints-again clause more k u hs)
+
+ended-again : (r s : Result (List Literal) (Result (Unit {0}) Step)) → Again r s → ended r ≡ Ok tt → ended s ≡ Ok tt
+ended-again (Ok u) s a e = cc
+ended-again (Err (Ok x)) s a e = ap ended a
+ended-again (Err (Err o)) s a e = cc
 
 hints-more : (clause more : ℕ → Option (List Literal)) → ((id : ℕ) (c : List Literal) → clause id ≡ Some c → more id ≡ Some c) → (t : List Literal) (hs : List ℤ) → take_hints clause t hs ≡ Ok tt → take_hints more t hs ≡ Ok tt
-hints-more clause more k t [] e = e
-hints-more clause more k t (h ∷ hs) e =
-    clause-more t (unsigned_abs h) (clause (unsigned_abs h)) (more (unsigned_abs h)) (λ u. take_hints clause u hs) (λ u. take_hints more u hs) (λ u. hints-more clause more k u hs) (k (unsigned_abs h)) e
+hints-more clause more k t hs e = ended-again (after_hints clause t hs) (after_hints more t hs) (hints-again clause more k t hs) e
 
 cond-more : (b : Bool) (r s : Result (Unit {0}) Step) → (r ≡ Ok tt → s ≡ Ok tt) → cond b (Ok tt) r ≡ Ok tt → cond b (Ok tt) s ≡ Ok tt
 cond-more true r s k e = refl
@@ -223,14 +269,14 @@ cond-at : (cs : List (List Literal)) (b : Bool) (p : ℕ) (c : List Literal) →
 cond-at cs true p c e = e
 cond-at cs false p c e = absurd (cc)
 
-at-more : (cs : List (List Literal)) (live : List Bool) (o : Option ℕ) (c : List Literal) → clause_at cs (if_live live o) ≡ Some c → clause_at cs o ≡ Some c
+pub at-more : (cs : List (List Literal)) (live : List Bool) (o : Option ℕ) (c : List Literal) → clause_at cs (if_live live o) ≡ Some c → clause_at cs o ≡ Some c
 at-more cs live None c e = e
 at-more cs live (Some p) c e = cond-at cs (get_or live p false) p c e
 
 check-live : (d : Proof) (lits : List Literal) (hs : List ℤ) → check (live_clause d) lits hs ≡ Ok tt → check (clause_of d.cnf.clauses d.lemmas) lits hs ≡ Ok tt
 check-live d lits hs e =
-    cond-more (is_tautology lits) (take_hints (live_clause d) (map complement lits) hs) (take_hints (clause_of d.cnf.clauses d.lemmas) (map complement lits) hs)
-    (hints-more (live_clause d) (clause_of d.cnf.clauses d.lemmas) (λ id c. at-more (clauses_with d.cnf.clauses d.lemmas) d.live (place_of (entries_with d.cnf.clauses d.lemmas []) id) c) (map complement lits) hs) e
+    cond-more (is_tautology lits) (take_hints (live_clause d) (all_with_true [] (map complement lits)) hs) (take_hints (clause_of d.cnf.clauses d.lemmas) (all_with_true [] (map complement lits)) hs)
+    (hints-more (live_clause d) (clause_of d.cnf.clauses d.lemmas) (λ id c. at-more (clauses_with d.cnf.clauses d.lemmas) d.live (place_of (entries_with d.cnf.clauses d.lemmas []) id) c) (all_with_true [] (map complement lits)) hs) e
 
 -- ---- the theorems
 
@@ -239,7 +285,7 @@ empty-clause v [] e h = true≢false (sym h)
 empty-clause v (l ∷ c) e h = true≢false (sym e)
 
 -- the empty clause is true nowhere
-has-empty : (v : ℕ → Bool) (cs : List (List Literal)) → list_any is_empty cs ≡ true → clauses_true v cs ≡ true → ⊥
+pub has-empty : (v : ℕ → Bool) (cs : List (List Literal)) → list_any is_empty cs ≡ true → clauses_true v cs ≡ true → ⊥
 has-empty v [] h a = true≢false (sym h)
 has-empty v (c ∷ cs) h a =
     let p = and_parts (clause_true v c) (clauses_true v cs) a in

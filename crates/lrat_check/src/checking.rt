@@ -1,10 +1,11 @@
-//! The check of a lemma against the live clauses.
+//! The check of a lemma against the live clauses, and its parts.
 ghost use Rattle.std.specs.Prelude.{◌≡◌, ◌++◌, ◌∷◌, [], true, map, slice_get, OnOk, IfErr};
 ghost use Rattle.std.specs.Option.{option_copied};
 ghost use Rattle.std.specs.List.{list_any};
 ghost use Rattle.knox_cnf.specs.Literals.{has, complement};
 ghost use Rattle.lrat_check.specs.declared.step.Step.TheVariants.{Memory};
-ghost use Rattle.lrat_check.specs.Hints.{Answers, Takes, after_clause, take_hints as hints_taken, check as checked, is_negative};
+ghost use Rattle.lrat_check.specs.Hints.{Answers, Takes, after_clause, after_hints, take_hints as hints_taken, check as checked, is_negative};
+ghost use Rattle.lrat_check.specs.Marks.{all_with_true, Extends};
 ghost use Rattle.lrat_check.specs.Derivations.{clauses_with, live_in};
 
 use crate::lemma::Lemma;
@@ -28,7 +29,7 @@ fn clause_at<'a>(formula: &'a [Clause], lemmas: &'a [Lemma], place: usize) -> Op
 }
 
 /// The live clause that an id names.
-fn live_clause<'a>(
+pub fn live_clause<'a>(
     formula: &'a [Clause],
     lemmas: &'a [Lemma],
     register: &Register,
@@ -50,7 +51,8 @@ fn take_hint(
     marks: &mut Marks,
     id: u64,
 ) -> Result<bool, Step>
-    ensures { Takes (after_clause marks.old id (live_in register.now (clauses_with formula.now lemmas.now) id)) result marks.new }
+    ensures takes { Takes (after_clause marks.old id (live_in register.now (clauses_with formula.now lemmas.now) id)) result marks.new }
+    ensures more { Extends marks.old marks.new }
 {
     let Some(clause) = live_clause(formula, lemmas, register, id) else {
         return Err(Step::NoSuchClause(id));
@@ -59,12 +61,34 @@ fn take_hint(
         Reading::False => Ok(true),
         Reading::Other => Err(Step::NotUnit(id)),
         Reading::Unit(lit) => {
-            if !marks.holds(lit) && marks.assume(lit).is_err() {
+            if marks.assume(lit).is_err() {
                 return Err(Step::Memory);
             }
             Ok(false)
         }
     }
+}
+
+/// Takes hints in order: true where the check has ended.
+pub fn walk_hints(
+    formula: &[Clause],
+    lemmas: &[Lemma],
+    register: &Register,
+    marks: &mut Marks,
+    hints: &[i64],
+) -> Result<bool, Step>
+    ensures takes { Takes (after_hints (live_in register.now (clauses_with formula.now lemmas.now)) marks.old hints.now) result marks.new }
+    ensures more { Extends marks.old marks.new }
+{
+    for hint in hints {
+        let id = hint.unsigned_abs();
+        match take_hint(formula, lemmas, register, marks, id) {
+            Err(step) => return Err(step),
+            Ok(true) => return Ok(true),
+            Ok(false) => {}
+        }
+    }
+    Ok(false)
 }
 
 fn take_hints(
@@ -76,21 +100,18 @@ fn take_hints(
 ) -> Result<(), Step>
     ensures { Answers result (hints_taken (live_in register.now (clauses_with formula.now lemmas.now)) marks.old hints.now) }
 {
-    for hint in hints {
-        let id = hint.unsigned_abs();
-        match take_hint(formula, lemmas, register, marks, id) {
-            Err(step) => return Err(step),
-            Ok(true) => return Ok(()),
-            Ok(false) => {}
-        }
+    match walk_hints(formula, lemmas, register, marks, hints) {
+        Err(step) => Err(step),
+        Ok(true) => Ok(()),
+        Ok(false) => Err(Step::NoConflict),
     }
-    Err(Step::NoConflict)
 }
 
 /// Takes the literals to be false.
-fn deny(marks: &mut Marks, lits: &[Lit]) -> Result<(), Step>
-    ensures ok { OnOk result (marks.new ≡ marks.old ++ map complement lits.now) }
+pub fn deny(marks: &mut Marks, lits: &[Lit]) -> Result<(), Step>
+    ensures ok { OnOk result (marks.new ≡ all_with_true marks.old (map complement lits.now)) }
     ensures err { IfErr result (λ step. step ≡ Memory) }
+    ensures more { Extends marks.old marks.new }
 {
     for lit in lits {
         if marks.assume(lit.complement()).is_err() {
@@ -101,7 +122,7 @@ fn deny(marks: &mut Marks, lits: &[Lit]) -> Result<(), Step>
 }
 
 /// Whether a literal of the lemma is true.
-fn is_contradictory(marks: &Marks, lits: &[Lit]) -> bool
+pub fn is_contradictory(marks: &Marks, lits: &[Lit]) -> bool
     ensures { result ≡ list_any (has marks.now) lits.now }
 {
     lits.iter().any(|lit| marks.holds(*lit))

@@ -175,7 +175,7 @@ impl Derivation {
 }
 
 /// How many places the table of marks has for a formula of so many variables.
-fn places_for(vars: u64) -> usize {
+pub fn places_for(vars: u64) -> usize {
     if vars < NEAR_VARIABLES {
         (2 * vars + 2) as usize
     } else {
@@ -192,7 +192,7 @@ fn make_lemma(alloc: Global, id: u64, lemma: &[Lit], hints: &[i64]) -> Result<Le
 }
 
 /// Whether there is the empty clause, with one more clause.
-fn closed_with(closed: bool, lemma: &[Lit]) -> bool
+pub fn closed_with(closed: bool, lemma: &[Lit]) -> bool
     ensures { result ≡ (closed || is_empty_clause lemma.now) }
 {
     closed || lemma.is_empty()
@@ -204,7 +204,7 @@ fn is_empty(clause: &Clause) -> bool
     clause.lits().is_empty()
 }
 
-fn has_empty(clauses: &[Clause]) -> bool
+pub fn has_empty(clauses: &[Clause]) -> bool
     ensures { result ≡ list_any is_empty_clause clauses.now }
 {
     clauses.iter().any(|clause| is_empty(clause))

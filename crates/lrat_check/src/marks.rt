@@ -1,7 +1,7 @@
 //! Which literals are taken to be true.
-ghost use Rattle.std.specs.Prelude.{◌≡◌, ◌<◌, ◌^◌, ◌++◌, ◌∷◌, [], OnOk, OnErr, IfOk};
+ghost use Rattle.std.specs.Prelude.{◌≡◌, ◌<◌, ◌^◌, ◌++◌, ◌∷◌, [], OnOk, OnErr, IfOk, true, false, length, take, ◌-◌};
 ghost use Rattle.knox_cnf.specs.Literals.{has};
-ghost use Rattle.lrat_check.specs.Marks.{index_of};
+ghost use Rattle.lrat_check.specs.Marks.{index_of, with_true};
 
 use knox_cnf::Lit;
 use std::alloc::{AllocError, Global};
@@ -67,8 +67,27 @@ impl Marks {
         }
     }
 
+    /// How many literals are true.
+    pub fn len(&self) -> usize
+        ensures { result ≡ length self.now }
+    {
+        self.trail.len()
+    }
+
     /// Takes a literal to be true.
     pub fn assume(&mut self, lit: Lit) -> Result<(), AllocError>
+        ensures ok { OnOk result (self.new ≡ with_true self.old lit) }
+        ensures err { OnErr result (self.new ≡ self.old) }
+    {
+        if self.holds(lit) {
+            return Ok(());
+        }
+        self.add(lit)
+    }
+
+    /// Adds a literal that isn't one of these.
+    fn add(&mut self, lit: Lit) -> Result<(), AllocError>
+        requires { has self.old lit ≡ false }
         ensures ok { OnOk result (self.new ≡ self.old ++ lit ∷ []) }
         ensures err { OnErr result (self.new ≡ self.old) }
     {
@@ -83,6 +102,29 @@ impl Marks {
             Err(_) => {
                 self.trail.pop();
                 Err(AllocError)
+            }
+        }
+    }
+
+    /// Takes back the assumptions behind so many first ones, at the cost of their number.
+    pub fn undo(&mut self, first: usize)
+        ensures { self.new ≡ take first self.old }
+    {
+        while self.trail.len() > first {
+            self.take_back();
+        }
+    }
+
+    /// Takes back the last assumption, if there is one.
+    fn take_back(&mut self)
+        ensures { self.new ≡ take (length self.old - 1) self.old }
+    {
+        if let Some(lit) = self.trail.pop() {
+            let at = index(lit);
+            if (at as usize) < self.near.len() {
+                self.near[at as usize] = false;
+            } else {
+                let _was = self.far.remove(&at);
             }
         }
     }

@@ -1,0 +1,4 @@
+pub mod Sound
+pub mod RefutationLemmas
+pub mod GroupLemmas
+pub mod RatLemmas

@@ -1,0 +1,5 @@
+pub mod Groups
+pub mod Rat
+pub mod Refutations
+pub mod Soundness
+pub mod Kept
