@@ -1,10 +1,13 @@
 #!/bin/sh
-# How many clock edges a second of processor time has: bench/ticks/run.sh FOLDER, a folder that is made.
+# How many clock edges a second of processor time has: bench/ticks/run.sh FOLDER, a folder outside the
+# checkout that is made.
 set -e
-here=$(cd "$(dirname "$0")" && pwd)
-mkdir -p "$1/circuits"
-folder=$(cd "$1" && pwd)
+here=$(cd "$(dirname "$0")" && pwd -P)
+needs="python3, awk and rt, about a minute and 10 MB, and minutes of proofs where the kit keeps none"
+. "$here/../guard.sh"
+guard "$1" python3 awk rt
 "$here/../yosys/build.sh" "$folder"
+mkdir -p "$folder/circuits"
 cd "$folder/circuits"
 
 # A row for so many lines of logic, a ROM of so many words, and so many ticks: the best of five runs.
