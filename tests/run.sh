@@ -1,6 +1,6 @@
 #!/usr/bin/env bash
 # Tests the scripts `knox` and `knox-try` over a small checkout and a stand-in for the kit's command rt, and
-# the guard of the scripts in bench/: tests/run.sh FOLDER. Some seconds. Status 1 where a case fails.
+# the guard of the scripts in bench/: tests/run.sh FOLDER [CASE..]. Half a minute. Status 1 where a case fails.
 here="$(cd "$(dirname "$0")/stand-in" && pwd -P)"
 needs="bash, flock and awk"
 source "$here/../../bench/guard.sh"
@@ -146,6 +146,20 @@ changed_uses() {
   expect says out "other-1"
 }
 
+changed_line() {
+  run "$at/knox"
+  sed -i 's/^knox: middle/knox: low middle/' "$at/crates.txt"
+  run "$at/knox"
+  expect calls 2
+}
+
+linked_source() {
+  run "$at/knox"
+  ln -s lib.rt "$at/crates/low/src/link.rt"
+  run "$at/knox"
+  expect calls 2
+}
+
 other_crate() {
   run "$at/knox"
   echo changed >"$at/crates/other/src/lib.rt"
@@ -208,6 +222,7 @@ waiting_call() {
   "$at/knox" >"$work/out" 2>"$work/err" </dev/null &
   second=$!
   until_true says err "another call is building the program; waiting for it. Its log: $at/.build/log"
+  until_true says first "low: another run on this machine is proving the same; waiting for it"
   for _ in 1 2 3; do
     touch "$KEPT/go"
     until_true test ! -f "$KEPT/go"
@@ -388,10 +403,12 @@ bench_is_guarded() {
   cp -r "$top/bench" "$top/knox" "$top/crates.txt" "$work/top"
   mkdir "$work/top/crates" "$work/full" "$work/link"
   echo mine >"$work/full/mine"
+  touch "$work/.made-by-knox"
   ln -s "$work/top" "$work/link/top"
   before="$(find "$work/top" "$work/full" -printf '%p %s %c\n' | sort)"
   for script in "$work"/top/bench/*/*.sh; do
     cd "$work/top" || exit
+    # (the folder above has a mark as if of an earlier run)
     for given in "" . new bench/new crates "$work/link/top/new" .. / "$work/full" "$work/full/mine"; do
       run sh "$script" $given
       expect ended 2
@@ -409,9 +426,11 @@ bench_is_guarded() {
 }
 
 cases="first_use second_use nothing_beside_build touched_source changed_source old_time deleted_source new_source renamed_source
-  changed_handles changed_uses other_crate source_that_comes_back source_that_changes_meanwhile failed_build no_rt lost_source
+  changed_handles changed_uses changed_line linked_source other_crate source_that_comes_back source_that_changes_meanwhile failed_build no_rt lost_source
   waiting_call ctrl_c terminated killed ways_to_call read_only one_folder_for_two_checkouts folder_of_builds_is_a_file
   try_words try_warns try_without_answer bench_is_guarded"
+shift
+[ $# = 0 ] || cases="$*"
 chmod 755 "$folder"
 for case in $cases; do
   work="$folder/$case"
