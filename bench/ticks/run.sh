@@ -17,10 +17,10 @@ row() {
     "$folder/crates/simulate/out/simulate" time c_$1_$2.btor2 $3
   done | tr '=' ' ' | awk -v logic=$1 '
     { lines = $2; words = $4; rate = $6 * 1e6 / ($8 + 1); if (rate > best) best = rate }
-    END { printf "| %d | %d | %d | %d | %d |\n", logic, lines, words, best, best * lines / 100 }'
+    END { printf "| %d | %d | %d | %d | %.1f |\n", logic, lines, words, best, 1e9 / best / logic }'
 }
 
-echo "| lines of logic | lines | words | ticks/s | ticks/s x lines/100 |"
+echo "| lines of logic | lines | words | ticks/s | nanoseconds for a line of logic |"
 echo "|---|---|---|---|---|"
 row 150 256 40000
 row 600 256 20000

@@ -11,7 +11,7 @@ mkdir -p "$folder/.git" "$folder/crates/knox_words" "$folder/crates/fold/src"
 for part in src specs proofs; do
   cp -r "$top/crates/knox_words/$part" "$folder/crates/knox_words/$part"
 done
-printf 'knox_words:\nfold: knox_words io\n' > "$folder/crates.txt"
+printf 'knox_words:\nfold: knox_words\n' > "$folder/crates.txt"
 cp "$here/fold.rt.txt" "$folder/crates/fold/src/main.rt"
 rustc -O "$here/fold.rs" -o "$folder/fold"
 echo "plain Rust:"
