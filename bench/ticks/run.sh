@@ -1,10 +1,13 @@
 #!/bin/sh
-# How many clock edges a second of processor time has: bench/ticks/run.sh FOLDER, a folder that is made.
+# How many clock edges a second of processor time has: bench/ticks/run.sh FOLDER, a folder outside the
+# checkout that is made.
 set -e
-here=$(cd "$(dirname "$0")" && pwd)
-mkdir -p "$1/circuits"
-folder=$(cd "$1" && pwd)
+here=$(cd "$(dirname "$0")" && pwd -P)
+needs="python3, awk and rt, about a minute and 10 MB, and minutes of proofs where the kit keeps none"
+. "$here/../guard.sh"
+guard "$1" python3 awk rt
 "$here/../yosys/build.sh" "$folder"
+mkdir -p "$folder/circuits"
 cd "$folder/circuits"
 
 # A row for so many lines of logic, a ROM of so many words, and so many ticks: the best of five runs.
@@ -14,10 +17,10 @@ row() {
     "$folder/crates/simulate/out/simulate" time c_$1_$2.btor2 $3
   done | tr '=' ' ' | awk -v logic=$1 '
     { lines = $2; words = $4; rate = $6 * 1e6 / ($8 + 1); if (rate > best) best = rate }
-    END { printf "| %d | %d | %d | %d | %d |\n", logic, lines, words, best, best * lines / 100 }'
+    END { printf "| %d | %d | %d | %d | %.1f |\n", logic, lines, words, best, 1e9 / best / logic }'
 }
 
-echo "| lines of logic | lines | words | ticks/s | ticks/s x lines/100 |"
+echo "| lines of logic | lines | words | ticks/s | nanoseconds for a line of logic |"
 echo "|---|---|---|---|---|"
 row 150 256 40000
 row 600 256 20000

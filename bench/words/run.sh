@@ -1,16 +1,17 @@
 #!/bin/sh
-# Builds and runs the speed test in both languages: bench/words/run.sh FOLDER, a folder that is made.
+# Builds and runs the speed test in both languages: bench/words/run.sh FOLDER, a folder outside the checkout
+# that is made.
 set -e
-here=$(cd "$(dirname "$0")" && pwd)
-folder=$1
-mkdir -p "$folder/crates"
-cp -r "$here/../../crates/knox_words" "$folder/crates/knox_words"
-rm -rf "$folder/crates/knox_words/out"
-printf 'knox_words:\n' > "$folder/crates.txt"
-(cd "$folder" && rt new crates/fold start_io)
-printf 'fold: knox_words\n' >> "$folder/crates.txt"
-rm -rf "$folder/crates/fold/src" "$folder/crates/fold/proofs" "$folder/crates/fold/specs"
-mkdir "$folder/crates/fold/src"
+here=$(cd "$(dirname "$0")" && pwd -P)
+needs="rustc and rt, and some minutes of proofs"
+. "$here/../guard.sh"
+guard "$1" rustc rt
+rm -rf "$folder/crates"
+mkdir -p "$folder/.git" "$folder/crates/knox_words" "$folder/crates/fold/src"
+for part in src specs proofs; do
+  cp -r "$top/crates/knox_words/$part" "$folder/crates/knox_words/$part"
+done
+printf 'knox_words:\nfold: knox_words\n' > "$folder/crates.txt"
 cp "$here/fold.rt.txt" "$folder/crates/fold/src/main.rt"
 rustc -O "$here/fold.rs" -o "$folder/fold"
 echo "plain Rust:"

@@ -1,18 +1,16 @@
 #!/bin/sh
 # Compares circuits that Yosys writes with their Verilog under Icarus Verilog: bench/yosys/run.sh FOLDER, a
-# folder that is made. Status 0 where all agrees, or where one of the two programs is missing.
+# folder outside the checkout that is made. Status 0 where all agrees, 77 where a program is missing.
 set -e
-here=$(cd "$(dirname "$0")" && pwd)
+here=$(cd "$(dirname "$0")" && pwd -P)
+needs="yosys, iverilog, vvp, python3 and rt, about a minute, and minutes of proofs where the kit keeps none"
+. "$here/../guard.sh"
+guard "$1" yosys iverilog vvp python3 rt
 ticks=2000
 seed=1
 designs="pin_store fifo accumulator operators"
 
-for tool in yosys iverilog vvp python3; do
-  command -v $tool >/dev/null || { echo "skipped: no $tool"; exit 0; }
-done
-[ -n "$1" ] || { echo "usage: run.sh FOLDER"; exit 2; }
-mkdir -p "$1/designs"
-folder=$(cd "$1" && pwd)
+mkdir -p "$folder/designs"
 "$here/build.sh" "$folder"
 simulate=$folder/crates/simulate/out/simulate
 cd "$folder/designs"
