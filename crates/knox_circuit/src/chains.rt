@@ -100,6 +100,25 @@ fn lay_all(known: &mut [Option<Word>], words: &[Option<Word>])
     }
 }
 
+/// Passes the nodes of a chain from a node down, up to one that was passed before: the node where the two
+/// chains meet.
+pub(crate) fn meeting(nodes: &[Node], passed: &mut [bool], node: u32) -> Option<u32> {
+    let mut at = node;
+    let mut before = nodes.len().min(passed.len());
+    while (at as usize) < before {
+        if passed[at as usize] {
+            return Some(at);
+        }
+        passed[at as usize] = true;
+        let Node::Write(array, _, _) = &nodes[at as usize] else {
+            return None;
+        };
+        before = at as usize;
+        at = *array;
+    }
+    None
+}
+
 /// What a walk gave: whether there is such a chain, and its words where there is.
 #[derive(Drop)]
 pub(crate) struct Found {

@@ -3,7 +3,7 @@ ghost use Rattle.std.specs.Prelude.{◌≡◌, ◌++◌, [], is_some, Some, None
 ghost use Rattle.knox_circuit.specs.Rom.{constant, chain_at, laid, known_or, init_known, is_itself, rom_of, roms_among, is_known, agree, free_mask};
 ghost use Rattle.knox_circuit.specs.Chains.{AreFound};
 
-use crate::chains::{Chains, constant};
+use crate::chains::{Chains, constant, meeting};
 use circuit_nodes::{Arg, Next, Node, State};
 use knox_words::Word;
 use std::alloc::{AllocError, Global};
@@ -92,12 +92,21 @@ fn wanted(state: &State) -> Option<(u32, u32)> {
     }
 }
 
-/// The nodes from which chains are wanted, each with its count of words, the lowest node first.
-fn all_wanted(alloc: Global, states: &[State]) -> Result<Vec<(u32, u32)>, AllocError> {
+/// The nodes from which chains are wanted and those where such chains meet, each with its count of words,
+/// the lowest node first.
+fn all_wanted(
+    alloc: Global,
+    nodes: &[Node],
+    states: &[State],
+) -> Result<Vec<(u32, u32)>, AllocError> {
+    let mut passed = vec![in alloc; false; nodes.len()]?;
     let mut all = Vec::new(alloc);
     for state in states {
-        if let Some(entry) = wanted(state) {
-            all.push(entry)?;
+        if let Some((node, words)) = wanted(state) {
+            all.push((node, words))?;
+            if let Some(shared) = meeting(nodes, &mut passed, node) {
+                all.push((shared, words))?;
+            }
         }
     }
     all.sort_unstable();
@@ -105,7 +114,7 @@ fn all_wanted(alloc: Global, states: &[State]) -> Result<Vec<(u32, u32)>, AllocE
 }
 
 /// What the chains of cells give. An operand stands before its node, so that from the lowest node to
-/// the highest each walk ends where an earlier one began.
+/// the highest each walk ends where an earlier one began, and no two go along the same writes.
 fn chains_of(
     alloc: Global,
     cells: u32,
@@ -114,7 +123,7 @@ fn chains_of(
 ) -> Result<Chains, AllocError>
     ensures { IfOk result (λ chains. AreFound cells nodes.now chains) }
 {
-    let all = all_wanted(alloc, states)?;
+    let all = all_wanted(alloc, nodes, states)?;
     let mut chains = Chains::new(alloc);
     for (node, words) in all.as_slice() {
         chains.remember(alloc, cells, nodes, *node, *words)?;
