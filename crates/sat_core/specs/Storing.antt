@@ -13,6 +13,14 @@ pub record IsSetOf (c d : List Literal) : Type 0 where
   pub same : HasSame c d
   pub distinct : IsDistinct d
 
+-- a literal that stood there, or is added
+abbrev pub AddsOnce : Literal → List Literal → List Literal → Type 0
+AddsOnce x old new = ((has old x ≡ true) × (new ≡ old)) ⊎ ((has old x ≡ false) × (new ≡ old ++ x ∷ []))
+
+-- no variable of the literals is past n
+pub record IsAbove (n : ℕ) (c : List Literal) : Type 0 where
+  pub each : (x : Literal) → has c x ≡ true → x.var ≤ n
+
 -- every literal has a list, and so has its complement
 pub record Fits (c : List Literal) (n : ℕ) : Type 0 where
   pub each : (x : Literal) → has c x ≡ true → 2 * x.var + 1 < n

@@ -4,7 +4,7 @@ ghost use Rattle.sat_core.specs.Plain.{clauses_of};
 ghost use Rattle.sat_core.specs.Propagation.{Propagates};
 ghost use Rattle.sat_core.specs.Solving.{fresh, EndsAt};
 
-use crate::propagation::propagate_all;
+use crate::propagation::propagate_solver;
 use crate::storing::{empty_lists, store, widest};
 use crate::trail::Trail;
 use crate::watch_lists::{Places, Watches};
@@ -48,14 +48,6 @@ impl Model for Solver {
     ghost invariant = { IsSolver };
 }
 
-/// The id of the clause at a place.
-fn id_at(place: Option<usize>) -> Option<u64> {
-    match place {
-        None => None,
-        Some(place) => Some(place as u64 + 1),
-    }
-}
-
 impl Solver {
     /// A solver of this formula, before any step. No literal is true.
     pub fn new(alloc: Global, cnf: Cnf) -> Result<Solver, AllocError>
@@ -93,13 +85,14 @@ impl Solver {
             return Err(AllocError);
         }
         self.broken = true;
-        let conflict = propagate_all(
+        let conflict = propagate_solver(
             self.alloc,
+            &self.derivation,
             self.stored.as_mut_slice(),
             self.lists.as_mut_slice(),
             &mut self.trail,
         )?;
         self.broken = false;
-        Ok(id_at(conflict))
+        Ok(conflict)
     }
 }

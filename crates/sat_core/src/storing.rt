@@ -1,15 +1,27 @@
 //! Clauses as they are stored, and the lists of their watches.
-ghost use Rattle.std.specs.Prelude.{◌≡◌, ◌<◌, ◌≤◌, ◌+◌, ◌*◌, ◌^◌, ℕ, [], length, IfOk, OnOk, true};
-ghost use Rattle.knox_cnf.specs.Literals.{Literal, has};
-ghost use Rattle.lrat_check.specs.Marks.{index_of};
+ghost use Rattle.std.specs.Prelude.{◌≡◌, ◌<◌, ◌≤◌, ◌+◌, ◌*◌, ◌^◌, ℕ, [], length, IfOk, OnOk};
 ghost use Rattle.sat_core.specs.Chains.{clause_at};
 ghost use Rattle.sat_core.specs.Lists.{FitsLists};
-ghost use Rattle.sat_core.specs.Storing.{IsSetOf, Fits, Lists, Stores};
+ghost use Rattle.sat_core.specs.Storing.{IsAbove, AddsOnce, IsSetOf, Fits, Lists, Stores};
 
 use crate::trail::Trail;
 use crate::watch_lists::{Places, Watches, add_watch};
 use knox_cnf::{Clause, Lit};
 use std::alloc::{AllocError, Global};
+
+/// Adds a literal, if it isn't there already. The marks tell of each.
+fn add_once(lit: Lit, marks: &mut Trail, literals: &mut Vec<Lit>) -> Result<(), AllocError>
+    requires { marks.old ≡ literals.old.items }
+    ensures marks { OnOk result (marks.new ≡ literals.new.items) }
+    ensures adds { OnOk result (AddsOnce lit literals.old.items literals.new.items) }
+{
+    if marks.holds(lit) {
+        return Ok(());
+    }
+    marks.push(lit)?;
+    literals.push(lit)?;
+    Ok(())
+}
 
 /// The literals of a clause, each once. The marks are clear before and behind it.
 fn set_of(alloc: Global, lits: &[Lit], marks: &mut Trail) -> Result<Watches, AllocError>
@@ -19,10 +31,7 @@ fn set_of(alloc: Global, lits: &[Lit], marks: &mut Trail) -> Result<Watches, All
 {
     let mut literals = Vec::new(alloc);
     for lit in lits {
-        if !marks.holds(*lit) {
-            marks.push(*lit)?;
-            literals.push(*lit)?;
-        }
+        add_once(*lit, marks, &mut literals)?;
     }
     marks.clear();
     Ok(Watches::new(literals))
@@ -37,7 +46,8 @@ fn list_clause(lists: &mut [Places], lits: &[Lit], place: usize) -> Result<(), A
         return Ok(());
     }
     add_watch(lists, lits[0], place)?;
-    add_watch(lists, lits[1], place)
+    add_watch(lists, lits[1], place)?;
+    Ok(())
 }
 
 /// Stores clauses, and lists them.
@@ -59,31 +69,34 @@ pub fn store(
     Ok(stored)
 }
 
+fn greater(a: u64, b: u64) -> u64
+    ensures left { a ≤ result }
+    ensures right { b ≤ result }
+    ensures one { (n : ℕ) → a < n → b < n → result < n }
+{
+    if a < b { b } else { a }
+}
+
 /// A number that no variable of the literals is past.
 fn widest_of(lits: &[Lit]) -> u64
-    ensures above { (x : Literal) → has lits.now x ≡ true → x.var ≤ result }
+    ensures above { IsAbove result lits.now }
     ensures small { result < 2 ^ 63 }
 {
     let mut widest = 0;
     for lit in lits {
-        if widest < lit.var() {
-            widest = lit.var();
-        }
+        widest = greater(widest, lit.var());
     }
     widest
 }
 
 /// A number that no variable of the clauses is past.
 pub fn widest(clauses: &[Clause]) -> u64
-    ensures above { (k : ℕ) (x : Literal) → has (clause_at clauses.now k) x ≡ true → x.var ≤ result }
+    ensures above { (k : ℕ) → IsAbove result (clause_at clauses.now k) }
     ensures small { result < 2 ^ 63 }
 {
     let mut widest = 0;
     for clause in clauses {
-        let here = widest_of(clause.lits());
-        if widest < here {
-            widest = here;
-        }
+        widest = greater(widest, widest_of(clause.lits()));
     }
     widest
 }
