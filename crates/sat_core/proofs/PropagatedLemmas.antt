@@ -1,12 +1,11 @@
 -- Propagation over clauses of any length, and its end.
-use Rattle.std.proofs.Common.{◌≡◌, ℕ, zero, suc, ◌+◌, ◌*◌, ◌<◌, ◌≤◌, Bool, true, false, not, ◌&&◌, ◌||◌, List, [], ◌∷◌, ◌++◌, append-nil, length, take, refl, sym, ◌∙◌, ap, subst, arith, inl, inr, ◌⊎◌, Option, Some, None, if◌then◌else◌}
-use Rattle.std.specs.List.{list_any, list_all}
+use Rattle.std.proofs.Common.{◌≡◌, ℕ, zero, suc, ◌+◌, ◌*◌, ◌<◌, ◌≤◌, Bool, true, false, not, ◌&&◌, ◌||◌, List, [], ◌∷◌, ◌++◌, append-nil, length, refl, sym, ◌∙◌, ap, subst, arith, inl, inr, ◌⊎◌, Option, Some, None}
 use Rattle.std.specs.Option.{is_some}
-use Rattle.std.proofs.lemmas.Bool.{and_parts, and_from, or_left, or_right, or_cases, true≢false, cases_Bool, not-true, both_ways, cases_eq}
+use Rattle.std.proofs.lemmas.Bool.{and_parts, and_from, or_left, or_right, or_cases, true≢false, not-true, both_ways, cases_eq}
 use Rattle.knox_cnf.specs.Literals.{Literal, complement, same_literal, has}
 use Rattle.lrat_check.specs.declared.reading.Reading.TheVariants.{False}
 use Rattle.lrat_check.specs.Reading.{open_literals, reading_of, reading_of_open}
-use Rattle.lrat_check.proofs.LiteralLemmas.{same_literal-refl, has-push}
+use Rattle.lrat_check.proofs.LiteralLemmas.{same_literal-refl}
 use Rattle.std.specs.Prelude.{replicate}
 use Rattle.knox_cnf.specs.declared.formula.Cnf.{Cnf}
 use Rattle.lrat_check.specs.Derivations.{Proof, live_clause, start_of}
@@ -16,7 +15,7 @@ use Rattle.sat_core.specs.Visits.{IsDistinct}
 use Rattle.sat_core.specs.Plain.{IsPlain, clauses_of}
 use Rattle.sat_core.specs.Propagation.{rests, rests_at, is_quiet, Propagates}
 use Rattle.sat_core.specs.Explained.{SameClauses}
-use Rattle.sat_core.specs.Lists.{FitsLists, settled, AreSettled, IsReady, Passes, Stops, Appends, AreAsserted, IsAsserted, AreRewatched}
+use Rattle.sat_core.specs.Lists.{FitsLists, settled, IsReady, Passes, Stops, Appends, AreAsserted, IsAsserted, AreRewatched}
 use Rattle.sat_core.specs.Storing.{Stores, AssertsUnit, Units, Finishes, Propagated}
 use Rattle.sat_core.specs.Solving.{Solving, EndsAt, IsSound}
 use Rattle.sat_core.proofs.Members.{all-has, all-from, has-left}
@@ -54,12 +53,13 @@ unit-has c t new x u h = elim u.0 [
 pub units-step : (cs : List (List Literal)) (c was t new : List Literal) (k : ℕ) → c ≡ clause_at cs k → AssertsUnit c t new true
     → Appends cs was t × ((j : ℕ) → j < k → length (clause_at cs j) < 2 → satisfied t (clause_at cs j) ≡ true)
     → Appends cs was new × ((j : ℕ) → j < k + 1 → length (clause_at cs j) < 2 → satisfied new (clause_at cs j) ≡ true)
-units-step cs c was t new k e u i =
-    (unit-appends cs c was t new k e i.0 u,
-    λ j lt short. elim (cases_eq j k) [
-      | inl is ↦ subst (λ d. satisfied new d ≡ true) (e ∙ ap (clause_at cs) (sym is)) (u.1 (subst (λ d. length d < 2) (ap (clause_at cs) is ∙ sym e) short))
-      | inr ne ↦ satisfied-more t new (clause_at cs j) (λ x h. unit-has c t new x u h) (i.1 j (below j lt ne) short)
-    ])
+units-step cs c was t new k e u i = (
+  unit-appends cs c was t new k e i.0 u,
+  λ j lt short. elim (cases_eq j k) [
+    | inl is ↦ subst (λ d. satisfied new d ≡ true) (e ∙ ap (clause_at cs) (sym is)) (u.1 (subst (λ d. length d < 2) (ap (clause_at cs) is ∙ sym e) short))
+    | inr ne ↦ satisfied-more t new (clause_at cs j) (λ x h. unit-has c t new x u h) (i.1 j (below j lt ne) short)
+  ],
+)
   where
     below : (j : ℕ) → j < k + 1 → (j ≡ k → ⊥) → j < k
     below j lt ne = omega (arith, lt, ne)
@@ -160,21 +160,24 @@ same-on cs old new t s r = record {
 -- ---- the solver
 
 false-at : (d : Proof) (stored : List (List Literal)) (t : List Literal) (k n : ℕ) → IsPlain d → SameClauses (clauses_of d) stored → n ≡ suc k → (k < length stored) × (falsifies t (clause_at stored k) ≡ true) → EndsAt d t (Some n)
-false-at d stored t k n p s e f =
-    (clause_at (clauses_of d) k,
-    subst (λ (z : ℕ). live_clause d z ≡ Some (clause_at (clauses_of d) k)) (sym e) (plain-look d p k (subst (λ (z : ℕ). k < z) s.long f.0)),
-    false-same t (clause_at (clauses_of d) k) (clause_at stored k) (s.each k) f.1)
+false-at d stored t k n p s e f = (
+  clause_at (clauses_of d) k,
+  subst (λ (z : ℕ). live_clause d z ≡ Some (clause_at (clauses_of d) k)) (sym e) (plain-look d p k (subst (λ (z : ℕ). k < z) s.long f.0)),
+  false-same t (clause_at (clauses_of d) k) (clause_at stored k) (s.each k) f.1,
+)
 
 asserted-all : (cs stored : List (List Literal)) (t ls : List Literal) → SameClauses cs stored → AreAsserted stored t ls → AreAsserted cs t ls
 asserted-all cs stored t [] s a = a
-asserted-all cs stored t (l ∷ ls) s a =
-    (record {
-      new = a.0.new;
-      free = a.0.free;
-      clause = a.0.clause;
-      holds = (s.each a.0.clause).each l ∙ a.0.holds;
-      asserted = all-from (λ x. has t (complement x) || same_literal l x) (clause_at cs a.0.clause) (λ x h. all-has (λ y. has t (complement y) || same_literal l y) (clause_at stored a.0.clause) x a.0.asserted (sym ((s.each a.0.clause).each x) ∙ h));
-    }, asserted-all cs stored (t ++ l ∷ []) ls s a.1)
+asserted-all cs stored t (l ∷ ls) s a = (
+  record {
+    new = a.0.new;
+    free = a.0.free;
+    clause = a.0.clause;
+    holds = (s.each a.0.clause).each l ∙ a.0.holds;
+    asserted = all-from (λ x. has t (complement x) || same_literal l x) (clause_at cs a.0.clause) (λ x h. all-has (λ y. has t (complement y) || same_literal l y) (clause_at stored a.0.clause) x a.0.asserted (sym ((s.each a.0.clause).each x) ∙ h));
+  },
+  asserted-all cs stored (t ++ l ∷ []) ls s a.1,
+)
 
 appends-same : (cs stored : List (List Literal)) (old new : List Literal) → SameClauses cs stored → Appends stored old new → Appends cs old new
 appends-same cs stored old new s a = record { added = a.added; appended = a.appended; asserted = asserted-all cs stored old a.added s a.asserted }

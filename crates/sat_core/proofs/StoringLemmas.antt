@@ -1,16 +1,15 @@
 -- Clauses are stored one after another.
 use Rattle.std.proofs.Common.{◌≡◌, ℕ, zero, suc, ◌+◌, ◌*◌, ◌<◌, ◌≤◌, Bool, true, false, ◌||◌, List, [], ◌∷◌, ◌++◌, length, length-append, take, refl, sym, ◌∙◌, ap, subst, arith, inl, inr, if◌then◌else◌}
-use Rattle.std.specs.Prelude.{slice_index_or, slice_set}
-use Rattle.std.proofs.lemmas.Bool.{cases_Bool, or_cases, or_left, or_right, true≢false, both_ways, false_from_ne_true}
+use Rattle.std.specs.Prelude.{slice_set}
+use Rattle.std.proofs.lemmas.Bool.{cases_Bool, or_cases, or_left, or_right, true≢false, both_ways}
 use Rattle.std.proofs.lemmas.List.{length-set, get_or-set_same}
-use Rattle.knox_cnf.specs.Literals.{Literal, literal, same_literal, has}
+use Rattle.knox_cnf.specs.Literals.{Literal, same_literal, has}
 use Rattle.lrat_check.specs.Marks.{index_of}
 use Rattle.lrat_check.proofs.LiteralLemmas.{same_literal-true, same_literal-refl, has-push}
 use Rattle.sat_core.specs.Chains.{clause_at}
 use Rattle.sat_core.specs.Watches.{HasSame}
 use Rattle.sat_core.specs.Visits.{IsDistinct, times, watch}
-use Rattle.sat_core.specs.Lists.{list_at, among, AreListed, FitsLists}
-use Rattle.sat_core.specs.Explained.{SameClauses}
+use Rattle.sat_core.specs.Lists.{list_at, among, FitsLists}
 use Rattle.sat_core.specs.Storing.{IsAbove, AddsOnce, IsSetOf, Fits, Lists, Stores}
 use Rattle.sat_core.proofs.Listing.{among-last}
 use Rattle.sat_core.proofs.Outcomes.{more-listed}
@@ -140,12 +139,16 @@ lists-both c place n old mid new a b l fa fb wa wb m e =
   where
     lt : index_of a < length old
     lt = subst (λ (z : ℕ). index_of a < z) l fa
+
     first : (q i : ℕ) → among i (list_at old q) ≡ true → among i (list_at mid q) ≡ true
     first q i g = subst (λ (ls : List (List ℕ)). among i (list_at ls q) ≡ true) (sym m) (more-listed old (index_of a) place lt q i g)
+
     second : (q i : ℕ) → among i (list_at mid q) ≡ true → among i (list_at (slice_set mid (index_of b) (list_at mid (index_of b) ++ place ∷ [])) q) ≡ true
     second q i g = more-listed mid (index_of b) place fb q i g
+
     here : (ls : List (List ℕ)) (p : ℕ) → p < length ls → among place (list_at (slice_set ls p (list_at ls p ++ place ∷ [])) p) ≡ true
     here ls p h = ap (among place) (get_or-set_same ls p (list_at ls p ++ place ∷ []) [] h) ∙ among-last place (list_at ls p)
+
     own : (j : ℕ) → 2 ≤ length c → j < 2 → among place (list_at (slice_set mid (index_of b) (list_at mid (index_of b) ++ place ∷ [])) (index_of (watch c j))) ≡ true
     own zero h two = second (index_of (watch c 0)) place (subst (λ (x : Literal). among place (list_at mid (index_of x)) ≡ true) wa (subst (λ (ls : List (List ℕ)). among place (list_at ls (index_of a)) ≡ true) (sym m) (here old (index_of a) lt)))
     own (suc zero) h two = subst (λ (x : Literal). among place (list_at (slice_set mid (index_of b) (list_at mid (index_of b) ++ place ∷ [])) (index_of x)) ≡ true) wb (here mid (index_of b) fb)
@@ -182,9 +185,11 @@ stores-step cs stored now lists more k n p c e d f t s ec set pl fd ls is =
         each = same-push (take k cs) stored c d s.same.long s.same.each (subst (λ x. HasSame x d) ec set.same);
       };
       distinct = push-each (λ j x. IsDistinct x) stored d s.distinct set.distinct;
-      listed = record { each = push-each (λ j x. (i : ℕ) → 2 ≤ length x → i < 2 → among j (list_at more (index_of (watch x i))) ≡ true) stored d
-          (λ j i h two. ls.more (index_of (watch (clause_at stored j) i)) j (s.listed.each j i h two))
-          (subst (λ x. (i : ℕ) → 2 ≤ length x → i < 2 → among (length stored) (list_at more (index_of (watch x i))) ≡ true) fd
-            (subst (λ (z : ℕ). (i : ℕ) → 2 ≤ length f → i < 2 → among z (list_at more (index_of (watch f i))) ≡ true) pl ls.own)) };
+      listed = record {
+        each = push-each (λ j x. (i : ℕ) → 2 ≤ length x → i < 2 → among j (list_at more (index_of (watch x i))) ≡ true) stored d
+            (λ j i h two. ls.more (index_of (watch (clause_at stored j) i)) j (s.listed.each j i h two))
+            (subst (λ x. (i : ℕ) → 2 ≤ length x → i < 2 → among (length stored) (list_at more (index_of (watch x i))) ≡ true) fd
+            (subst (λ (z : ℕ). (i : ℕ) → 2 ≤ length f → i < 2 → among z (list_at more (index_of (watch f i))) ≡ true) pl ls.own));
+      };
       long = ls.long ∙ s.long;
     })))

@@ -1,5 +1,5 @@
 -- A solver: a derivation, and the literals that are true.
-use Rattle.std.specs.Prelude.{ℕ, ◌≡◌, ◌⊎◌, Bool, true, List, []}
+use Rattle.std.specs.Prelude.{ℕ, ◌≡◌, ◌⊎◌, true, List, []}
 use Rattle.std.specs.Prelude.{Option, Some, None}
 use Rattle.knox_cnf.specs.Literals.{Literal}
 use Rattle.knox_cnf.specs.declared.formula.Cnf.{Cnf}
@@ -7,7 +7,6 @@ use Rattle.lrat_check.specs.declared.reading.Reading.TheVariants.{False}
 use Rattle.lrat_check.specs.Reading.{reading_of}
 use Rattle.lrat_check.specs.Derivations.{Proof, start_of, live_clause}
 use Rattle.sat_core.specs.declared.solver.Solver.TheInside.{Inside}
-use Rattle.sat_core.specs.Chains.{clause_at}
 use Rattle.sat_core.specs.Plain.{IsPlain, clauses_of}
 use Rattle.sat_core.specs.Propagation.{is_quiet}
 use Rattle.sat_core.specs.Watches.{IsConsistent}

@@ -5,7 +5,7 @@ use Rattle.lrat_check.specs.Marks.{index_of}
 use Rattle.sat_core.specs.Chains.{falsifies, clause_at}
 use Rattle.sat_core.specs.Watches.{is_false, satisfied, guarded, HasSame}
 use Rattle.sat_core.specs.Visits.{IsDistinct, watch}
-use Rattle.sat_core.specs.Lists.{list_at, among, AreListed, AreRewatched, FitsLists, Appends}
+use Rattle.sat_core.specs.Lists.{list_at, among, AreListed, AreRewatched, Appends}
 use Rattle.sat_core.specs.Explained.{SameClauses}
 
 -- the literals of a clause, each once

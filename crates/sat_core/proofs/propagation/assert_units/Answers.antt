@@ -1,6 +1,6 @@
-use Rattle.std.proofs.Common.{◌≡◌, ◌∙◌, true, false, sym, subst, arith}
+use Rattle.std.proofs.Common.{subst}
 use Rattle.sat_core.specs.Storing.{AssertsUnit}
-use Rattle.sat_core.proofs.PropagatedLemmas.{units-step, unit-false, units-start}
+use Rattle.sat_core.proofs.PropagatedLemmas.{units-step, units-start}
 use Rattle.sat_core.proofs.propagation.assert_units.Goals as goal
 
 pub loop-place-init : goal.loop-place-init

@@ -1,4 +1,4 @@
-use Rattle.std.proofs.Common.{◌≡◌, ◌∙◌, true, false, sym}
+use Rattle.std.proofs.Common.{◌∙◌, sym}
 use Rattle.sat_core.proofs.PropagatedLemmas.{units-ready, units-false, all-propagated}
 use Rattle.sat_core.proofs.propagation.propagate_all.Goals as goal
 

@@ -1,4 +1,3 @@
-use Rattle.std.proofs.Common.{◌≡◌, ◌∙◌, ap, sym}
 use Rattle.sat_core.proofs.PropagatedLemmas.{propagated-sound, propagated-forced, propagated-quiet, propagated-false}
 use Rattle.sat_core.proofs.propagation.propagate_solver.Goals as goal
 
