@@ -158,3 +158,5 @@ kept-none ns widths vars p q r =
       measured = q ∙ (sym (ap (map (λ (x : Bits). x.width)) (values-none [])) ∙ ap (λ (ms : List Node). map (λ (x : Bits). x.width) (values [] ms)) (sym p));
       listed = r ∙ ap vars_of (sym p);
     }
+
+pub ruleset wording = (gives-word, always-word)

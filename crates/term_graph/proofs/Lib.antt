@@ -1,3 +1,4 @@
 pub mod ValueLemmas
 pub mod WidthLemmas
 pub mod BuiltLemmas
+pub mod FoldLemmas

@@ -138,7 +138,7 @@ impl Graph {
     }
 
     /// The place of a node, which is added where the graph has none that is equal.
-    fn place_of(&mut self, node: Node, width: u8) -> Result<Term, AllocError>
+    pub(crate) fn place_of(&mut self, node: Node, width: u8) -> Result<Term, AllocError>
         requires next { IsNext self.old node }
         requires not_var { is_var node ≡ false }
         requires wide { width ≡ (level [] (value [] self.old) node).width }

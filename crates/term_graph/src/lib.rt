@@ -3,6 +3,7 @@
 //! `specs/Value.antt` says what value a term has under a valuation.
 #![tactic(auto)]
 
+mod constructors;
 mod graph;
 mod node;
 mod valuation;
