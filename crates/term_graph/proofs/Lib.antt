@@ -2,3 +2,4 @@ pub mod ValueLemmas
 pub mod WidthLemmas
 pub mod BuiltLemmas
 pub mod FoldLemmas
+pub mod RuleLemmas

@@ -6,6 +6,7 @@
 mod constructors;
 mod graph;
 mod node;
+mod rules;
 mod valuation;
 
 pub use graph::Graph;
