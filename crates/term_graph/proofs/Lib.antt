@@ -3,3 +3,4 @@ pub mod WidthLemmas
 pub mod BuiltLemmas
 pub mod FoldLemmas
 pub mod RuleLemmas
+pub mod BecomeLemmas

@@ -1,13 +1,15 @@
 -- The rules by which an operator on two terms is simplified, as tables. No public clause cites them: every value stays as it is.
 -- The project's own.
-use Rattle.std.specs.Prelude.{ℕ, ◌==◌, Bool, true, false, Option, Some, None, if◌then◌else◌}
+use Rattle.std.specs.Prelude.{ℕ, ◌≡◌, ◌==◌, List, Bool, true, false, Option, Some, None, if◌then◌else◌}
 use Rattle.knox_words.specs.Bits.{Bits, word_or}
 use Rattle.knox_words.specs.Ops.{op1_value}
 use Rattle.knox_words.specs.declared.op.Op1.TheVariants.{Not}
 use Rattle.knox_words.specs.declared.op.Op2.{Op2}
 use Rattle.knox_words.specs.declared.op.Op2.TheVariants as op2
+use Rattle.term_graph.specs.declared.node.Node.{Node}
 use Rattle.term_graph.specs.declared.rules.Rule.{Rule}
 use Rattle.term_graph.specs.declared.rules.Rule.TheVariants.{Itself, Turned, Word}
+use Rattle.term_graph.specs.Value.{value}
 
 -- what a term becomes by a rule
 abbrev pub ruled : Rule → Bits → Bits
@@ -84,3 +86,7 @@ second_rule op2.Ulte c = at_ends c None (Some (Word (word_or 1 1)))
 second_rule op2.Ugt c = at_ends c None (Some (Word (word_or 1 0)))
 second_rule op2.Ugte c = at_ends c (Some (Word (word_or 1 1))) None
 second_rule _ c = None
+
+-- a term that a rule takes to a value under each valuation
+pub record Becomes (ns : List Node) (t : ℕ) (r : Rule) (f : List Bits → Bits) : Type 0 where
+  pub each : (v : List Bits) → ruled r (value v ns t) ≡ f v
