@@ -12,7 +12,7 @@ use Rattle.term_graph.specs.Kept.{Keeps, Gives, IsAlways}
 use Rattle.term_graph.specs.Rules.{ruled, is_commutative, same_rule, first_rule, second_rule, Becomes}
 use Rattle.term_graph.proofs.WidthLemmas.{value-width, value-IsWord}
 use Rattle.term_graph.proofs.FoldLemmas.{gives-same}
-use Rattle.term_graph.proofs.RuleLemmas.{same-values, first-values, second-values, or-commuted}
+use Rattle.term_graph.proofs.RuleLemmas.{same-values, first-values, second-values, or-commuted, fits-commuted}
 
 -- every rule of a table
 gathered : (ns : List Node) (t : ℕ) (m : Option Rule) (f : List Bits → Bits) → ((v : List Bits) → IfSome m (λ r. ruled r (value v ns t) ≡ f v)) → IfSome m (λ r. Becomes ns t r f)
@@ -56,3 +56,7 @@ gives-becomes old new t s r f is g = gives-same new t _ f g is.each
 
 pub gives-commuted : (old new : List Node) (t a b : ℕ) (o : Op2) → is_commutative o ≡ true → fits2_of o (width_of old a) (width_of old b) ≡ true → Gives new t (λ v. op2_or o (value v old b) (value v old a)) → Gives new t (λ v. op2_or o (value v old a) (value v old b))
 gives-commuted old new t a b o c h g = gives-same new t _ _ g (λ v. sym (or-commuted o (value v old a) (value v old b) c (fits-values old v o a b h)))
+
+pub ruleset becoming = (gives-becomes)
+
+pub ruleset turning = (gives-commuted, fits-commuted)

@@ -66,4 +66,4 @@ fold-uext old new t a n x is g = gives-same new t _ _ g (λ v. ap (λ (y : Bits)
 pub fold-slice : (old new : List Node) (t a h l : ℕ) (x : Bits) → IsAlways old a x → Gives new t (λ v. slice_or x h l) → Gives new t (λ v. slice_or (value v old a) h l)
 fold-slice old new t a h l x is g = gives-same new t _ _ g (λ v. ap (λ (y : Bits). slice_or y h l) (sym (is.each v)))
 
-pub ruleset folding = (fold-un, fold-bin, fold-sext, fold-uext, fold-slice, width-word, width-un, width-bin, width-sext, width-uext, width-slice, width-ite)
+pub ruleset folding = (keeps-same, fold-un, fold-bin, fold-sext, fold-uext, fold-slice, width-word, width-un, width-bin, width-sext, width-uext, width-slice, width-ite)

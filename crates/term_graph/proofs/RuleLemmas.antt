@@ -217,8 +217,8 @@ module _ (c x : Bits) (same : c.width ≡ x.width) (is : IsWord c) (word : IsWor
       let less : x.value < 2 ^ x.width = word.fits in
       ends c _ _ (λ r. ruled r x ≡ op2_value op2.Sub x c) is
       (λ z.
-          let whole : x.value + (2 ^ x.width - c.value) ≡ x.value + 1 * 2 ^ x.width = omega (arith, z) in
-          ap (bits x.width) (sym (ap (λ (n : ℕ). n % 2 ^ x.width) whole ∙ (add-mul-mod_self_right x.value 1 (2 ^ x.width) ∙ mod-eq_of_lt less))))
+      let whole : x.value + (2 ^ x.width - c.value) ≡ x.value + 1 * 2 ^ x.width = omega (arith, z) in
+      ap (bits x.width) (sym (ap (λ (n : ℕ). n % 2 ^ x.width) whole ∙ (add-mul-mod_self_right x.value 1 (2 ^ x.width) ∙ mod-eq_of_lt less))))
       (λ z. tt)
   second-values op2.Sll h = ends c _ _ (λ r. ruled r x ≡ op2_value op2.Sll x c) is (λ z. ap (bits x.width) (sym (unshifted z))) (λ z. tt)
     where

@@ -4,9 +4,11 @@ ghost use Rattle.std.specs.Prelude.{◌≡◌, ◌+◌, ◌<◌, ◌≤◌, leng
 ghost use Rattle.knox_words.specs.Ops.{op1_value, op2_or, fits2_of, sext_or, uext_or, slice_or};
 ghost use Rattle.term_graph.specs.Value.{value, width_of, ite_or};
 ghost use Rattle.term_graph.specs.Kept.{Keeps, Gives, IsAlways};
+ghost use Rattle.term_graph.specs.Rules.{ruled, Becomes};
 
 use crate::graph::Graph;
 use crate::node::{Node, Term};
+use crate::rules::{Rule, first_rule, is_commutative, same_rule, second_rule};
 use knox_words::{Op1, Op2, Word};
 use std::alloc::AllocError;
 
@@ -50,9 +52,64 @@ impl Graph {
         self.place_of(Node::Un(o, a), width)
     }
 
-    /// An operator on two terms of widths that it takes. `Err` is want of memory.
+    /// A term by a rule.
     #[tactic(auto, using(crate::proofs::FoldLemmas::folding))]
-    pub fn bin(&mut self, o: Op2, a: Term, b: Term) -> Result<Term, AllocError>
+    fn apply(&mut self, t: Term, rule: Rule) -> Result<Term, AllocError>
+        requires { t < length self.old }
+        ensures kept { Keeps self.old self.new }
+        ensures value { IfOk result (λ s. Gives self.new s (λ v. ruled rule (value v self.old t))) }
+    {
+        match rule {
+            Rule::Itself => Ok(t),
+            Rule::Turned => self.un(Op1::Not, t),
+            Rule::Word(w) => self.word(w),
+        }
+    }
+
+    /// The rule for an operator on two terms that are one.
+    fn rule_for_same(&self, o: Op2, a: Term, b: Term) -> Option<Rule>
+        requires first { a < length self.now }
+        requires second { b < length self.now }
+        requires fits { IsTrue (fits2_of o (width_of self.now a) (width_of self.now b)) }
+        ensures { IfSome result (λ r. Becomes self.now a r (λ v. op2_or o (value v self.now a) (value v self.now b))) }
+    {
+        if a.place() != b.place() {
+            return None;
+        }
+        same_rule(o, self.width(a))
+    }
+
+    /// The rule for an operator on a word and a term.
+    fn rule_for_first(&self, o: Op2, a: Term, b: Term) -> Option<Rule>
+        requires first { a < length self.now }
+        requires second { b < length self.now }
+        requires fits { IsTrue (fits2_of o (width_of self.now a) (width_of self.now b)) }
+        ensures { IfSome result (λ r. Becomes self.now b r (λ v. op2_or o (value v self.now a) (value v self.now b))) }
+    {
+        let c = self.constant(a)?;
+        if c.width() != self.width(b) {
+            return None;
+        }
+        first_rule(o, c)
+    }
+
+    /// The rule for an operator on a term and a word.
+    fn rule_for_second(&self, o: Op2, a: Term, b: Term) -> Option<Rule>
+        requires first { a < length self.now }
+        requires second { b < length self.now }
+        requires fits { IsTrue (fits2_of o (width_of self.now a) (width_of self.now b)) }
+        ensures { IfSome result (λ r. Becomes self.now a r (λ v. op2_or o (value v self.now a) (value v self.now b))) }
+    {
+        let c = self.constant(b)?;
+        if c.width() != self.width(a) {
+            return None;
+        }
+        second_rule(o, c)
+    }
+
+    /// An operator on two terms in this order.
+    #[tactic(auto, using(crate::proofs::FoldLemmas::folding, crate::proofs::BecomeLemmas::becoming))]
+    fn joined(&mut self, o: Op2, a: Term, b: Term) -> Result<Term, AllocError>
         requires first { a < length self.old }
         requires second { b < length self.old }
         requires fits { IsTrue (fits2_of o (width_of self.old a) (width_of self.old b)) }
@@ -62,8 +119,46 @@ impl Graph {
         if let (Some(x), Some(y)) = (self.constant(a), self.constant(b)) {
             return self.word(knox_words::op2_or(o, x, y));
         }
+        if let Some(rule) = self.rule_for_same(o, a, b) {
+            return self.apply(a, rule);
+        }
+        if let Some(rule) = self.rule_for_first(o, a, b) {
+            return self.apply(b, rule);
+        }
+        if let Some(rule) = self.rule_for_second(o, a, b) {
+            return self.apply(a, rule);
+        }
         let width = knox_words::op2_width(o, self.width(a), self.width(b));
         self.place_of(Node::Bin(o, a, b), width)
+    }
+
+    /// Whether two operands of a commutative operator are to be turned: a word goes first, and else
+    /// the older term.
+    fn are_turned(&self, a: Term, b: Term) -> bool
+        requires first { a < length self.now }
+        requires second { b < length self.now }
+    {
+        match (self.constant(a), self.constant(b)) {
+            (Some(_), None) => false,
+            (None, Some(_)) => true,
+            _ => b.place() < a.place(),
+        }
+    }
+
+    /// An operator on two terms of widths that it takes. `Err` is want of memory.
+    #[tactic(auto, using(crate::proofs::BecomeLemmas::turning))]
+    pub fn bin(&mut self, o: Op2, a: Term, b: Term) -> Result<Term, AllocError>
+        requires first { a < length self.old }
+        requires second { b < length self.old }
+        requires fits { IsTrue (fits2_of o (width_of self.old a) (width_of self.old b)) }
+        ensures kept { Keeps self.old self.new }
+        ensures value { IfOk result (λ t. Gives self.new t (λ v. op2_or o (value v self.old a) (value v self.old b))) }
+    {
+        if is_commutative(o) && self.are_turned(a, b) {
+            let t = self.joined(o, b, a)?;
+            return Ok(t);
+        }
+        self.joined(o, a, b)
     }
 
     /// A term's number, read with a sign, in `n` bits more. `Err` is want of memory.
