@@ -1,5 +1,5 @@
 -- Terms that rules take to the value of an operator on them.
-use Rattle.std.proofs.Common.{◌≡◌, ℕ, ◌<◌, List, Option, Some, None, true, refl, sym, ap, ◌∙◌, subst}
+use Rattle.std.proofs.Common.{◌≡◌, ℕ, List, Option, Some, None, true, sym, ap, ◌∙◌, subst}
 use Rattle.std.specs.Prelude.{IfSome}
 use Rattle.knox_words.specs.Bits.{Bits, IsWord}
 use Rattle.knox_words.specs.Ops.{op2_value, op2_or, fits2_of}
@@ -8,7 +8,7 @@ use Rattle.knox_words.proofs.Results.{op2_or-value}
 use Rattle.term_graph.specs.declared.node.Node.{Node}
 use Rattle.term_graph.specs.declared.rules.Rule.{Rule}
 use Rattle.term_graph.specs.Value.{value, width_of}
-use Rattle.term_graph.specs.Kept.{Keeps, Gives, IsAlways}
+use Rattle.term_graph.specs.Kept.{Gives, IsAlways}
 use Rattle.term_graph.specs.Rules.{ruled, is_commutative, same_rule, first_rule, second_rule, Becomes}
 use Rattle.term_graph.proofs.WidthLemmas.{value-width, value-IsWord}
 use Rattle.term_graph.proofs.FoldLemmas.{gives-same}

@@ -1,19 +1,15 @@
 -- Graphs as nodes are added: they stay graphs, and the new term has its node's value.
-use Rattle.std.proofs.Common.{◌≡◌, ℕ, zero, suc, ◌+◌, ◌<◌, ◌≤◌, Bool, List, [], ◌∷◌, ◌++◌, append-nil, length, map, take, drop, slice_get, Some, refl, sym, ◌∙◌, ap, subst, arith, length-append, true, false, inl, inr, cond, not, if◌then◌else◌}
+use Rattle.std.proofs.Common.{◌≡◌, ℕ, suc, ◌+◌, ◌<◌, ◌≤◌, Bool, List, [], ◌∷◌, ◌++◌, append-nil, length, map, take, drop, slice_get, Some, refl, sym, ◌∙◌, ap, subst, arith, length-append, false, inl, inr, if◌then◌else◌}
 use Rattle.std.proofs.Math.Seq.{take-append_seam}
-use Rattle.std.proofs.lemmas.List.{take-append-le, length-take-le}
+use Rattle.std.proofs.lemmas.List.{take-append-le}
 use Rattle.std.proofs.lemmas.Option.{slice_get_within}
 use Rattle.std.proofs.lemmas.Bool.{cases_lt}
-use Rattle.std.specs.List.{list_any}
-use Rattle.indexmap.specs.IndexSet.{insert_key}
 use Rattle.knox_words.specs.Bits.{Bits, IsWord, bits, word_at, word_or}
-use Rattle.knox_words.specs.Ops.{op2_or}
-use Rattle.knox_words.specs.declared.op.Op2.{Op2}
 use Rattle.knox_words.proofs.Lists.{IsWord-is_word, word_or-zero}
 use Rattle.term_graph.specs.declared.node.Node.{Node}
 use Rattle.term_graph.specs.declared.node.Node.TheVariants as node
-use Rattle.term_graph.specs.Value.{level, values, value, vars_from, vars_of, is_var, of_width, width_of}
-use Rattle.term_graph.specs.Built.{Below, IsNext, IsBuilt, IsKept}
+use Rattle.term_graph.specs.Value.{level, values, value, vars_from, vars_of, is_var, of_width}
+use Rattle.term_graph.specs.Built.{IsNext, IsBuilt, IsKept}
 use Rattle.term_graph.specs.Kept.{Keeps, Gives, Adds, IsAlways, Makes}
 use Rattle.term_graph.proofs.ValueLemmas.{slice_get-append_left, slice_get-seam, split-at, value-node, value-kept, level-local, vars-plain, vars-made, vars_from-append, values-none}
 use Rattle.term_graph.proofs.WidthLemmas.{widths-more, of_width-width}

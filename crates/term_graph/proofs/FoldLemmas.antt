@@ -1,14 +1,21 @@
 -- What constructors give: the widths of new nodes, and terms whose operands are words under every valuation.
-use Rattle.std.proofs.Common.{◌≡◌, ℕ, ◌+◌, ◌-◌, ◌<◌, ◌≤◌, ◌==◌, ◌&&◌, nat_le, nat_lt, List, [], ◌∷◌, ◌++◌, append-nil, Bool, true, false, refl, sym, ap, ◌∙◌, subst, arith, if◌then◌else◌}
+use Rattle.std.proofs.Common.{◌≡◌, ℕ, ◌+◌, ◌-◌, ◌<◌, ◌≤◌, ◌==◌, List, [], append-nil, length, take, slice_get, Some, ◌^◌, Bool, true, false, refl, sym, ap, ◌∙◌, subst, arith, if◌then◌else◌}
 use Rattle.std.proofs.lemmas.Bool.{le-leb, lt-ltb}
+use Rattle.std.proofs.lemmas.List.{length-take-le}
 use Rattle.std.specs.Cmp.{nat_eq_equiv}
-use Rattle.knox_words.specs.Bits.{Bits, bits, IsWord, word_or, word_at, ite_value}
-use Rattle.knox_words.specs.Ops.{op1_value, op2_value, op2_or, op1_width, op2_width, fits2_of, sext_or, uext_or, slice_or, slice_value, sext_value, uext_value}
+use Rattle.knox_words.specs.Bits.{Bits, bits, IsWord, word_or, ite_value}
+use Rattle.knox_words.specs.Ops.{op1_value, op2_value, op2_or, op1_width, op2_width, fits2_of, sext_or, uext_or, slice_or, sext_value, uext_value}
 use Rattle.knox_words.specs.declared.op.Op1.{Op1}
+use Rattle.knox_words.specs.declared.op.Op1.TheVariants.{Not}
 use Rattle.knox_words.specs.declared.op.Op2.{Op2}
 use Rattle.knox_words.proofs.Results.{op1_value-width, op2_value-width}
 use Rattle.term_graph.specs.declared.node.Node.{Node}
-use Rattle.term_graph.specs.Value.{value, ite_or}
+use Rattle.term_graph.specs.declared.node.Node.TheVariants as node
+use Rattle.term_graph.specs.Value.{value, width_of, ite_or}
+use Rattle.term_graph.specs.Built.{IsBuilt}
+use Rattle.term_graph.specs.Rules.{is_not}
+use Rattle.term_graph.proofs.ValueLemmas.{value-node}
+use Rattle.term_graph.proofs.WidthLemmas.{value-width, value-IsWord}
 use Rattle.term_graph.specs.Kept.{Keeps, Gives, IsAlways}
 use Rattle.term_graph.proofs.BuiltLemmas.{word_or-same}
 
@@ -65,5 +72,56 @@ fold-uext old new t a n x is g = gives-same new t _ _ g (λ v. ap (λ (y : Bits)
 
 pub fold-slice : (old new : List Node) (t a h l : ℕ) (x : Bits) → IsAlways old a x → Gives new t (λ v. slice_or x h l) → Gives new t (λ v. slice_or (value v old a) h l)
 fold-slice old new t a h l x is g = gives-same new t _ _ g (λ v. ap (λ (y : Bits). slice_or y h l) (sym (is.each v)))
+
+-- a choice whose arms are equal, or whose condition is a word
+
+chosen : (c a b : Bits) → a.width ≡ b.width → ite_or c a b ≡ ite_value c a b
+chosen c a b h = ap (λ (t : Bool). if t then ite_value c a b else bits 1 0) (subst (λ (k : ℕ). (a.width == k) ≡ true) h (nat_eq_equiv.refl a.width))
+
+alike : (ns : List Node) (a b : ℕ) → width_of ns a ≡ width_of ns b → (v : List Bits) → (value v ns a).width ≡ (value v ns b).width
+alike ns a b h v = value-width v ns a ∙ (h ∙ sym (value-width v ns b))
+
+pub choose-equal : (ns : List Node) (c a b : ℕ) → a < length ns → width_of ns a ≡ width_of ns b → a ≡ b → Gives ns a (λ v. ite_or (value v ns c) (value v ns a) (value v ns b))
+choose-equal ns c a b h w e = record {
+  within = h;
+  gives = λ v. by_test ((value v ns c).value == 1) (value v ns a) (value v ns b) (ap (value v ns) e) ∙ sym (chosen (value v ns c) (value v ns a) (value v ns b) (alike ns a b w v));
+}
+  where
+    by_test : (t : Bool) (x y : Bits) → x ≡ y → x ≡ (if t then x else y)
+    by_test true x y p = refl
+    by_test false x y p = p
+
+pub choose-first : (ns : List Node) (c a b : ℕ) (x : Bits) → a < length ns → width_of ns a ≡ width_of ns b → IsAlways ns c x → (x.value == 1) ≡ true → Gives ns a (λ v. ite_or (value v ns c) (value v ns a) (value v ns b))
+choose-first ns c a b x h w is one = record {
+  within = h;
+  gives = λ v. ap (λ (t : Bool). if t then value v ns a else value v ns b) (sym (ap (λ (y : Bits). y.value == 1) (is.each v) ∙ one)) ∙ sym (chosen (value v ns c) (value v ns a) (value v ns b) (alike ns a b w v));
+}
+
+pub choose-second : (ns : List Node) (c a b : ℕ) (x : Bits) → b < length ns → width_of ns a ≡ width_of ns b → IsAlways ns c x → (x.value == 1) ≡ false → Gives ns b (λ v. ite_or (value v ns c) (value v ns a) (value v ns b))
+choose-second ns c a b x h w is one = record {
+  within = h;
+  gives = λ v. ap (λ (t : Bool). if t then value v ns a else value v ns b) (sym (ap (λ (y : Bits). y.value == 1) (is.each v) ∙ one)) ∙ sym (chosen (value v ns c) (value v ns a) (value v ns b) (alike ns a b w v));
+}
+
+pub ruleset choosing = (choose-equal, choose-first, choose-second)
+
+-- every bit turned twice
+
+not-not : (x : Bits) → IsWord x → op1_value Not (op1_value Not x) ≡ x
+not-not x is =
+    let below : x.value < 2 ^ x.width = is.fits in
+    let back : 2 ^ x.width - 1 - (2 ^ x.width - 1 - x.value) ≡ x.value = omega arith in
+    ap (bits x.width) back
+
+pub gives-undone : (ns : List Node) (a x : ℕ) (o i : Op1) → IsBuilt ns → slice_get ns a ≡ Some (node.Un i x) → a < length ns → is_not o ≡ true → is_not i ≡ true → Gives ns x (λ v. op1_value o (value v ns a))
+gives-undone ns a x Not Not built e h p q =
+    let under : x < length (take a ns) = (built.each a (node.Un Not x) e).below in
+    let long : length (take a ns) ≡ a = length-take-le a ns (omega arith) in
+    record {
+      within = omega arith;
+      gives = λ v. sym (ap (op1_value Not) (value-node v ns a (node.Un Not x) built e) ∙ not-not (value v ns x) (value-IsWord v ns x));
+    }
+gives-undone ns a x Not _ built e h p q = cc
+gives-undone ns a x _ i built e h p q = cc
 
 pub ruleset folding = (keeps-same, fold-un, fold-bin, fold-sext, fold-uext, fold-slice, width-word, width-un, width-bin, width-sext, width-uext, width-slice, width-ite)

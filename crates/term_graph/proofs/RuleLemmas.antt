@@ -1,5 +1,5 @@
 -- Each rule keeps the operator's value.
-use Rattle.std.proofs.Common.{◌≡◌, ℕ, zero, suc, ◌+◌, ◌-◌, ◌*◌, ◌/◌, ◌%◌, ◌^◌, ◌<◌, ◌≤◌, ◌==◌, ◌||◌, nat_le, nat_lt, bit_and, bit_or, bit_xor, Bool, true, false, Option, Some, None, refl, sym, ap, ◌∙◌, subst, arith, if◌then◌else◌, eqb-true}
+use Rattle.std.proofs.Common.{◌≡◌, ℕ, zero, suc, ◌+◌, ◌-◌, ◌*◌, ◌/◌, ◌%◌, ◌^◌, ◌<◌, ◌==◌, ◌||◌, nat_lt, bit_and, bit_or, bit_xor, Bool, true, false, Option, None, refl, sym, ap, ◌∙◌, subst, arith, if◌then◌else◌, eqb-true}
 use Rattle.std.specs.Prelude.{IfSome}
 use Rattle.std.specs.Int.Bits.{and_self, or_self, xor_self, and_zero_l, or_zero_l, xor_zero_l, or_add_and, xor_add_and}
 use Rattle.std.proofs.lemmas.Nat.{and_comm, or_comm, xor_comm, and_mask, pow_pos}
@@ -14,7 +14,6 @@ use Rattle.knox_words.specs.declared.op.Op2.TheVariants as op2
 use Rattle.knox_words.proofs.Lists.{word_or-zero}
 use Rattle.knox_words.proofs.Results.{op2_or-value}
 use Rattle.term_graph.specs.declared.rules.Rule.{Rule}
-use Rattle.term_graph.specs.declared.rules.Rule.TheVariants.{Itself, Turned, Word}
 use Rattle.term_graph.specs.Rules.{ruled, is_commutative, same_rule, first_rule, second_rule, at_ends}
 
 word-is : (x : Bits) (w n : ℕ) → x.width ≡ w → x.value ≡ n → x ≡ bits w n

@@ -1,5 +1,5 @@
 -- The values of terms as nodes are added, and the variables among the nodes.
-use Rattle.std.proofs.Common.{◌≡◌, ℕ, zero, suc, ◌+◌, ◌<◌, ◌≤◌, Bool, List, [], ◌∷◌, ◌++◌, append-nil, length, take, drop, slice_get, Some, refl, sym, ◌∙◌, ap, subst, arith, add-one, length-append, nat_lt, true, false, if◌then◌else◌}
+use Rattle.std.proofs.Common.{◌≡◌, ℕ, zero, suc, ◌+◌, ◌<◌, ◌≤◌, Bool, List, [], ◌∷◌, ◌++◌, append-nil, length, take, drop, slice_get, Some, refl, sym, ◌∙◌, ap, arith, add-one, length-append, nat_lt, true, false, if◌then◌else◌}
 use Rattle.std.proofs.Math.ListN.{get_or-append}
 use Rattle.std.proofs.Math.Seq.{get_or-append_seam}
 use Rattle.std.proofs.lemmas.List.{length-take-le, take-append-drop}

@@ -1,11 +1,11 @@
 -- The widths of terms: a term's value is a word, of the same width under every valuation.
-use Rattle.std.proofs.Common.{◌≡◌, ℕ, zero, suc, ◌+◌, ◌-◌, ◌<◌, ◌≤◌, ◌^◌, ◌==◌, ◌&&◌, nat_le, nat_lt, Bool, List, [], ◌∷◌, ◌++◌, length, length-append, map, slice_get, slice_index_or, Some, refl, sym, ◌∙◌, ap, subst, arith, true, false, if◌then◌else◌, eqb-true}
+use Rattle.std.proofs.Common.{◌≡◌, ℕ, zero, suc, ◌+◌, ◌-◌, ◌<◌, ◌≤◌, ◌==◌, ◌&&◌, nat_le, nat_lt, Bool, List, [], ◌∷◌, ◌++◌, length, length-append, map, slice_get, slice_index_or, Some, refl, sym, ◌∙◌, ap, subst, arith, true, false, if◌then◌else◌, eqb-true}
 use Rattle.std.proofs.lemmas.Bool.{leb-true, ltb-true, and_parts}
 use Rattle.std.proofs.lemmas.List.{map-append, length-map}
 use Rattle.std.specs.List.{fold}
-use Rattle.knox_words.specs.Bits.{Bits, IsWord, bits, is_word, word_at, word_or, ite_value}
+use Rattle.knox_words.specs.Bits.{Bits, IsWord, bits, is_word, word_at, word_or}
 use Rattle.knox_words.specs.Lists.{fits}
-use Rattle.knox_words.specs.Ops.{op1_value, op2_value, op2_or, op1_width, op2_width, fits2_of, sext_or, uext_or, slice_or, sext_value, uext_value, slice_value}
+use Rattle.knox_words.specs.Ops.{op2_value, op2_or, op1_width, op2_width, fits2_of, sext_or, uext_or, slice_or, sext_value, uext_value, slice_value}
 use Rattle.knox_words.specs.declared.op.Op2.{Op2}
 use Rattle.knox_words.proofs.Lists.{is_word-IsWord, fits-width, fits-IsWord, word_or-zero}
 use Rattle.knox_words.proofs.Results.{op1_value-width, op2_value-width, op1_value-IsWord, op2_value-IsWord, sext_value-IsWord, uext_value-IsWord, slice_value-IsWord}

@@ -1,10 +1,12 @@
 -- Lists of nodes that are graphs: children before parents, of widths that their operators take, variables numbered in order,
 -- and no two nodes equal.
 use Rattle.std.specs.Prelude.{ℕ, ◌+◌, ◌<◌, ◌≤◌, List, length, take, slice_get, map, Some, true, ◌≡◌, []}
+use Rattle.std.specs.List.{IsDistinct}
 use Rattle.knox_words.specs.Bits.{IsWord}
 use Rattle.knox_words.specs.Ops.{fits2_of}
 use Rattle.term_graph.specs.declared.node.Node.{Node}
 use Rattle.term_graph.specs.declared.node.Node.TheVariants as node
+use Rattle.term_graph.specs.contracts.node.NodePartialEq.TheImpl.{ghosts}
 use Rattle.term_graph.specs.Value.{values, vars_of, width_of}
 
 -- the children of a node stand before place k
@@ -47,7 +49,7 @@ pub record IsBuilt (ns : List Node) : Type 0 where
 -- the same, where no two nodes are equal
 pub record IsGraph (ns : List Node) : Type 0 where
   pub built : IsBuilt ns
-  pub different : (j k : ℕ) (n : Node) → slice_get ns j ≡ Some n → slice_get ns k ≡ Some n → j ≡ k
+  pub different : IsDistinct ghosts.eq ns
 
 -- a graph with the widths of its terms and the places of its variables
 pub record IsKept (ns : List Node) (widths vars : List ℕ) : Type 0 where

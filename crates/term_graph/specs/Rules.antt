@@ -3,6 +3,7 @@
 use Rattle.std.specs.Prelude.{ℕ, ◌≡◌, ◌==◌, List, Bool, true, false, Option, Some, None, if◌then◌else◌}
 use Rattle.knox_words.specs.Bits.{Bits, word_or}
 use Rattle.knox_words.specs.Ops.{op1_value}
+use Rattle.knox_words.specs.declared.op.Op1.{Op1}
 use Rattle.knox_words.specs.declared.op.Op1.TheVariants.{Not}
 use Rattle.knox_words.specs.declared.op.Op2.{Op2}
 use Rattle.knox_words.specs.declared.op.Op2.TheVariants as op2
@@ -16,6 +17,11 @@ abbrev pub ruled : Rule → Bits → Bits
 ruled Itself x = x
 ruled Turned x = op1_value Not x
 ruled (Word w) x = w
+
+-- whether an operator turns every bit
+abbrev pub is_not : Op1 → Bool
+is_not Not = true
+is_not _ = false
 
 -- whether an operator has the same value on its operands in the other order
 abbrev pub is_commutative : Op2 → Bool

@@ -8,7 +8,7 @@ ghost use Rattle.term_graph.specs.Rules.{ruled, Becomes};
 
 use crate::graph::Graph;
 use crate::node::{Node, Term};
-use crate::rules::{Rule, first_rule, is_commutative, same_rule, second_rule};
+use crate::rules::{Rule, first_rule, is_commutative, is_not, same_rule, second_rule};
 use knox_words::{Op1, Op2, Word};
 use std::alloc::AllocError;
 
@@ -38,6 +38,17 @@ impl Graph {
         }
     }
 
+    /// The term whose complement a term is, for the operator that turns every bit.
+    fn undone(&self, o: Op1, a: Term) -> Option<Term>
+        requires { a < length self.now }
+        ensures { IfSome result (λ t. Gives self.now t (λ v. op1_value o (value v self.now a))) }
+    {
+        match self.node(a) {
+            Node::Un(inner, x) if is_not(o) && is_not(inner) => Some(x),
+            _ => None,
+        }
+    }
+
     /// An operator on a term. `Err` is want of memory.
     #[tactic(auto, using(crate::proofs::FoldLemmas::folding))]
     pub fn un(&mut self, o: Op1, a: Term) -> Result<Term, AllocError>
@@ -47,6 +58,9 @@ impl Graph {
     {
         if let Some(x) = self.constant(a) {
             return self.word(knox_words::op1(o, x));
+        }
+        if let Some(t) = self.undone(o, a) {
+            return Ok(t);
         }
         let width = knox_words::op1_width(o, self.width(a));
         self.place_of(Node::Un(o, a), width)
@@ -209,7 +223,7 @@ impl Graph {
     }
 
     /// `a` where `c`, of width 1, is 1, and else `b`, of the same width. `Err` is want of memory.
-    #[tactic(auto, using(crate::proofs::FoldLemmas::folding))]
+    #[tactic(auto, using(crate::proofs::FoldLemmas::folding, crate::proofs::FoldLemmas::choosing))]
     pub fn ite(&mut self, c: Term, a: Term, b: Term) -> Result<Term, AllocError>
         requires condition { c < length self.old }
         requires first { a < length self.old }
@@ -219,6 +233,15 @@ impl Graph {
         ensures kept { Keeps self.old self.new }
         ensures value { IfOk result (λ t. Gives self.new t (λ v. ite_or (value v self.old c) (value v self.old a) (value v self.old b))) }
     {
+        if a.place() == b.place() {
+            return Ok(a);
+        }
+        if let Some(x) = self.constant(c) {
+            if x.value() == 1 {
+                return Ok(a);
+            }
+            return Ok(b);
+        }
         let width = self.width(a);
         self.place_of(Node::Ite(c, a, b), width)
     }

@@ -87,13 +87,14 @@ impl Graph {
         self.nodes.len()
     }
 
-    /// The node at a term.
+    /// The node at a term. Children stand before parents, and no two nodes are equal.
     pub fn node(&self, t: Term) -> Node
         requires { t < length self.now }
         ensures node { slice_get self.now t ≡ Some result }
-        ensures built { IsBuilt self.now }
+        ensures graph { IsGraph self.now }
     {
-        *self.nodes.get_index(t.place()).unwrap()
+        let nodes = self.nodes.as_slice();
+        nodes[t.place()]
     }
 
     /// The width of a term, which its value has under every valuation.

@@ -1,6 +1,6 @@
 //! The rules by which an operator on two terms is simplified, as tables.
 ghost use Rattle.std.specs.Prelude.{◌≡◌};
-ghost use Rattle.term_graph.specs.Rules.{at_ends, same_rule, first_rule, second_rule, is_commutative};
+ghost use Rattle.term_graph.specs.Rules.{is_not, at_ends, same_rule, first_rule, second_rule, is_commutative};
 
 use knox_words::{Op1, Op2, Word, op1, word_or};
 
@@ -13,6 +13,16 @@ pub(crate) enum Rule {
     Turned,
     /// A word.
     Word(Word),
+}
+
+/// Whether an operator turns every bit.
+pub(crate) fn is_not(o: Op1) -> bool
+    ensures { result ≡ is_not o }
+{
+    match o {
+        Op1::Not => true,
+        _ => false,
+    }
 }
 
 /// Whether an operator has the same value on its operands in the other order.

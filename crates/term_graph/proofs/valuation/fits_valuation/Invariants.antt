@@ -1,4 +1,4 @@
-use Rattle.std.proofs.Common.{◌≡◌, ◌<◌, ℕ, length, map, nat_lt, true}
+use Rattle.std.proofs.Common.{◌≡◌, length, map, nat_lt, true}
 use Rattle.std.specs.List.{list_all}
 use Rattle.knox_words.specs.Lists.{fit}
 use Rattle.term_graph.specs.Value.{width_of, var_widths}

@@ -1,4 +1,3 @@
-use Rattle.std.proofs.Common.{rules}
 use Rattle.term_graph.proofs.BuiltLemmas.{kept-none}
 use Rattle.term_graph.proofs.graph.Graph.new.Goals as goal
 

@@ -1,7 +1,6 @@
-use Rattle.std.proofs.Common.{[], sym, ap, subst, List, ℕ, slice_get, ◌∙◌, ◌≡◌}
-use Rattle.knox_words.specs.Bits.{Bits}
+use Rattle.std.proofs.Common.{[], sym, ap, subst, List, slice_get, ◌∙◌, ◌≡◌}
 use Rattle.term_graph.specs.declared.node.Node.{Node}
-use Rattle.term_graph.specs.Kept.{Adds, Keeps}
+use Rattle.term_graph.specs.Kept.{Adds}
 use Rattle.term_graph.specs.Built.{IsBuilt, IsNext}
 use Rattle.term_graph.specs.Value.{level, value}
 use Rattle.term_graph.proofs.BuiltLemmas.{gives-added, kept-plain, kept-added}

@@ -1,5 +1,4 @@
-use Rattle.std.proofs.Common.{◌≡◌, ℕ, List, length, slice_get, Some, subst, sym, ap, ◌∙◌, rules}
-use Rattle.term_graph.specs.declared.node.Node.{Node}
+use Rattle.std.proofs.Common.{◌≡◌, ℕ, length, slice_get, Some, subst, ap, ◌∙◌, rules}
 use Rattle.term_graph.specs.declared.node.Node.TheVariants as node
 use Rattle.term_graph.specs.Kept.{Adds, Makes}
 use Rattle.term_graph.specs.Value.{vars_of}
