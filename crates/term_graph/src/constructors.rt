@@ -1,0 +1,248 @@
+//! The constructors of terms, which simplify. Each keeps the value of every older term under every
+//! valuation, also where memory runs out, and makes no variable.
+ghost use Rattle.std.specs.Prelude.{◌≡◌, ◌+◌, ◌<◌, ◌≤◌, length, IfOk, IsTrue, IfSome};
+ghost use Rattle.knox_words.specs.Ops.{op1_value, op2_or, fits2_of, sext_or, uext_or, slice_or};
+ghost use Rattle.term_graph.specs.Value.{value, width_of, ite_or};
+ghost use Rattle.term_graph.specs.Kept.{Keeps, Gives, IsAlways};
+ghost use Rattle.term_graph.specs.Rules.{ruled, Becomes};
+
+use crate::graph::Graph;
+use crate::node::{Node, Term};
+use crate::rules::{Rule, first_rule, is_commutative, is_not, same_rule, second_rule};
+use knox_words::{Op1, Op2, Word};
+use std::alloc::AllocError;
+
+impl Graph {
+    /// The term that is a word. `Err` is want of memory.
+    #[tactic(auto, using(crate::proofs::BuiltLemmas::wording, crate::proofs::FoldLemmas::folding))]
+    pub fn word(&mut self, w: Word) -> Result<Term, AllocError>
+        ensures kept { Keeps self.old self.new }
+        ensures value { IfOk result (λ t. Gives self.new t (λ _. w)) }
+    {
+        let width = w.width();
+        self.place_of(Node::Word(w), width)
+    }
+
+    /// The word that a term is under each valuation, where its node is one.
+    #[tactic(auto, using(crate::proofs::BuiltLemmas::wording))]
+    fn constant(&self, t: Term) -> Option<Word>
+        requires { t < length self.now }
+        ensures { IfSome result (IsAlways self.now t) }
+    {
+        match self.node(t) {
+            Node::Word(w) => {
+                let _width = w.width();
+                Some(w)
+            }
+            _ => None,
+        }
+    }
+
+    /// The term whose complement a term is, for the operator that turns every bit.
+    fn undone(&self, o: Op1, a: Term) -> Option<Term>
+        requires { a < length self.now }
+        ensures { IfSome result (λ t. Gives self.now t (λ v. op1_value o (value v self.now a))) }
+    {
+        match self.node(a) {
+            Node::Un(inner, x) if is_not(o) && is_not(inner) => Some(x),
+            _ => None,
+        }
+    }
+
+    /// An operator on a term. `Err` is want of memory.
+    #[tactic(auto, using(crate::proofs::FoldLemmas::folding))]
+    pub fn un(&mut self, o: Op1, a: Term) -> Result<Term, AllocError>
+        requires { a < length self.old }
+        ensures kept { Keeps self.old self.new }
+        ensures value { IfOk result (λ t. Gives self.new t (λ v. op1_value o (value v self.old a))) }
+    {
+        if let Some(x) = self.constant(a) {
+            return self.word(knox_words::op1(o, x));
+        }
+        if let Some(t) = self.undone(o, a) {
+            return Ok(t);
+        }
+        let width = knox_words::op1_width(o, self.width(a));
+        self.place_of(Node::Un(o, a), width)
+    }
+
+    /// A term by a rule.
+    #[tactic(auto, using(crate::proofs::FoldLemmas::folding))]
+    fn apply(&mut self, t: Term, rule: Rule) -> Result<Term, AllocError>
+        requires { t < length self.old }
+        ensures kept { Keeps self.old self.new }
+        ensures value { IfOk result (λ s. Gives self.new s (λ v. ruled rule (value v self.old t))) }
+    {
+        match rule {
+            Rule::Itself => Ok(t),
+            Rule::Turned => self.un(Op1::Not, t),
+            Rule::Word(w) => self.word(w),
+        }
+    }
+
+    /// The rule for an operator on two terms that are one.
+    fn rule_for_same(&self, o: Op2, a: Term, b: Term) -> Option<Rule>
+        requires first { a < length self.now }
+        requires second { b < length self.now }
+        requires fits { IsTrue (fits2_of o (width_of self.now a) (width_of self.now b)) }
+        ensures { IfSome result (λ r. Becomes self.now a r (λ v. op2_or o (value v self.now a) (value v self.now b))) }
+    {
+        if a.place() != b.place() {
+            return None;
+        }
+        same_rule(o, self.width(a))
+    }
+
+    /// The rule for an operator on a word and a term.
+    fn rule_for_first(&self, o: Op2, a: Term, b: Term) -> Option<Rule>
+        requires first { a < length self.now }
+        requires second { b < length self.now }
+        requires fits { IsTrue (fits2_of o (width_of self.now a) (width_of self.now b)) }
+        ensures { IfSome result (λ r. Becomes self.now b r (λ v. op2_or o (value v self.now a) (value v self.now b))) }
+    {
+        let c = self.constant(a)?;
+        if c.width() != self.width(b) {
+            return None;
+        }
+        first_rule(o, c)
+    }
+
+    /// The rule for an operator on a term and a word.
+    fn rule_for_second(&self, o: Op2, a: Term, b: Term) -> Option<Rule>
+        requires first { a < length self.now }
+        requires second { b < length self.now }
+        requires fits { IsTrue (fits2_of o (width_of self.now a) (width_of self.now b)) }
+        ensures { IfSome result (λ r. Becomes self.now a r (λ v. op2_or o (value v self.now a) (value v self.now b))) }
+    {
+        let c = self.constant(b)?;
+        if c.width() != self.width(a) {
+            return None;
+        }
+        second_rule(o, c)
+    }
+
+    /// An operator on two terms in this order.
+    #[tactic(auto, using(crate::proofs::FoldLemmas::folding, crate::proofs::BecomeLemmas::becoming))]
+    fn joined(&mut self, o: Op2, a: Term, b: Term) -> Result<Term, AllocError>
+        requires first { a < length self.old }
+        requires second { b < length self.old }
+        requires fits { IsTrue (fits2_of o (width_of self.old a) (width_of self.old b)) }
+        ensures kept { Keeps self.old self.new }
+        ensures value { IfOk result (λ t. Gives self.new t (λ v. op2_or o (value v self.old a) (value v self.old b))) }
+    {
+        if let (Some(x), Some(y)) = (self.constant(a), self.constant(b)) {
+            return self.word(knox_words::op2_or(o, x, y));
+        }
+        if let Some(rule) = self.rule_for_same(o, a, b) {
+            return self.apply(a, rule);
+        }
+        if let Some(rule) = self.rule_for_first(o, a, b) {
+            return self.apply(b, rule);
+        }
+        if let Some(rule) = self.rule_for_second(o, a, b) {
+            return self.apply(a, rule);
+        }
+        let width = knox_words::op2_width(o, self.width(a), self.width(b));
+        self.place_of(Node::Bin(o, a, b), width)
+    }
+
+    /// Whether two operands of a commutative operator are to be turned: a word goes first, and else
+    /// the older term.
+    fn are_turned(&self, a: Term, b: Term) -> bool
+        requires first { a < length self.now }
+        requires second { b < length self.now }
+    {
+        match (self.constant(a), self.constant(b)) {
+            (Some(_), None) => false,
+            (None, Some(_)) => true,
+            _ => b.place() < a.place(),
+        }
+    }
+
+    /// An operator on two terms of widths that it takes. `Err` is want of memory.
+    #[tactic(auto, using(crate::proofs::BecomeLemmas::turning))]
+    pub fn bin(&mut self, o: Op2, a: Term, b: Term) -> Result<Term, AllocError>
+        requires first { a < length self.old }
+        requires second { b < length self.old }
+        requires fits { IsTrue (fits2_of o (width_of self.old a) (width_of self.old b)) }
+        ensures kept { Keeps self.old self.new }
+        ensures value { IfOk result (λ t. Gives self.new t (λ v. op2_or o (value v self.old a) (value v self.old b))) }
+    {
+        if is_commutative(o) && self.are_turned(a, b) {
+            let t = self.joined(o, b, a)?;
+            return Ok(t);
+        }
+        self.joined(o, a, b)
+    }
+
+    /// A term's number, read with a sign, in `n` bits more. `Err` is want of memory.
+    #[tactic(auto, using(crate::proofs::FoldLemmas::folding))]
+    pub fn sext(&mut self, a: Term, n: u8) -> Result<Term, AllocError>
+        requires within { a < length self.old }
+        requires narrow { width_of self.old a + n ≤ 128 }
+        ensures kept { Keeps self.old self.new }
+        ensures value { IfOk result (λ t. Gives self.new t (λ v. sext_or (value v self.old a) n)) }
+    {
+        if let Some(x) = self.constant(a) {
+            return self.word(knox_words::sext_or(x, n));
+        }
+        let width = self.width(a) + n;
+        self.place_of(Node::Sext(a, n), width)
+    }
+
+    /// A term's number in `n` bits more. `Err` is want of memory.
+    #[tactic(auto, using(crate::proofs::FoldLemmas::folding))]
+    pub fn uext(&mut self, a: Term, n: u8) -> Result<Term, AllocError>
+        requires within { a < length self.old }
+        requires narrow { width_of self.old a + n ≤ 128 }
+        ensures kept { Keeps self.old self.new }
+        ensures value { IfOk result (λ t. Gives self.new t (λ v. uext_or (value v self.old a) n)) }
+    {
+        if let Some(x) = self.constant(a) {
+            return self.word(knox_words::uext_or(x, n));
+        }
+        let width = self.width(a) + n;
+        self.place_of(Node::Uext(a, n), width)
+    }
+
+    /// The bits of a term from `high` down to `low`, where bit 0 is the lowest. `Err` is want of
+    /// memory.
+    #[tactic(auto, using(crate::proofs::FoldLemmas::folding))]
+    pub fn slice(&mut self, a: Term, high: u8, low: u8) -> Result<Term, AllocError>
+        requires within { a < length self.old }
+        requires order { low ≤ high }
+        requires narrow { high < width_of self.old a }
+        ensures kept { Keeps self.old self.new }
+        ensures value { IfOk result (λ t. Gives self.new t (λ v. slice_or (value v self.old a) high low)) }
+    {
+        if let Some(x) = self.constant(a) {
+            return self.word(knox_words::slice_or(x, high, low));
+        }
+        let _whole = self.width(a);
+        self.place_of(Node::Slice(a, high, low), high - low + 1)
+    }
+
+    /// `a` where `c`, of width 1, is 1, and else `b`, of the same width. `Err` is want of memory.
+    #[tactic(auto, using(crate::proofs::FoldLemmas::folding, crate::proofs::FoldLemmas::choosing))]
+    pub fn ite(&mut self, c: Term, a: Term, b: Term) -> Result<Term, AllocError>
+        requires condition { c < length self.old }
+        requires first { a < length self.old }
+        requires second { b < length self.old }
+        requires bit { width_of self.old c ≡ 1 }
+        requires same { width_of self.old a ≡ width_of self.old b }
+        ensures kept { Keeps self.old self.new }
+        ensures value { IfOk result (λ t. Gives self.new t (λ v. ite_or (value v self.old c) (value v self.old a) (value v self.old b))) }
+    {
+        if a.place() == b.place() {
+            return Ok(a);
+        }
+        if let Some(x) = self.constant(c) {
+            if x.value() == 1 {
+                return Ok(a);
+            }
+            return Ok(b);
+        }
+        let width = self.width(a);
+        self.place_of(Node::Ite(c, a, b), width)
+    }
+}
