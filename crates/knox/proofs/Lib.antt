@@ -1,9 +1,7 @@
 pub mod Digits
 pub mod ReadSteps
-pub mod FiveTexts
-pub mod Written
-pub mod Verified
-pub mod Explained
-pub mod FirstFault
+pub mod TextsLemmas
+pub mod WritingLemmas
+pub mod RunsLemmas
 pub mod CheckSteps
 pub mod OneEnd

@@ -4,7 +4,8 @@ use lang_read::LangFault;
 use script_core::{Choices, HintNo};
 use script_read::ScriptFault;
 
-/// A text of a verify command: its circuit, specification, driver, emulator or hint text.
+/// A text of a command: a circuit, a specification, a driver, an emulator, a hint text, a trace, a
+/// formula or a goal, or a proof.
 #[derive(Clone, Copy, Debug, PartialEq, Eq)]
 pub enum Letter {
     C,
@@ -12,6 +13,9 @@ pub enum Letter {
     D,
     E,
     H,
+    T,
+    F,
+    P,
 }
 
 /// What is wrong with a text.

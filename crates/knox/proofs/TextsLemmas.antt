@@ -9,7 +9,10 @@ use Rattle.knox_verify.specs.declared.verdict.Letter.TheVariants.{C, D, H}
 use Rattle.knox.specs.Reading.{Within, texts_of}
 use Rattle.knox_verify.specs.declared.verdict.TextWhy.{TextWhy}
 use Rattle.knox_verify.specs.declared.verdict.TextWhy.TheVariants.{TooLong, Circuit, Lang, Script}
-use Rattle.knox.specs.Verdicts.{NamesTexts}
+use Rattle.knox.specs.Runs.{VerifiesTo}
+use Rattle.knox.specs.declared.outcome.Outcome.{Outcome}
+use Rattle.knox.specs.declared.outcome.Outcome.TheVariants as outcome
+use Rattle.knox.specs.declared.outcome.TextFault.TheVariants.{OfDevice}
 use Rattle.knox_verify.specs.declared.verdict.VerifyFault.TheVariants.{Text}
 use Rattle.knox_verify.specs.Verdicts.{first_long, RefusesLong, Explains, Names}
 
@@ -84,7 +87,7 @@ named c s d e h letter (Circuit f) long told = absurd told
 named c s d e h letter (Lang f) long told = absurd told
 named c s d e h letter (Script f) long told = absurd told
 
-pub five-named : (ts : List Bytes) (c s d e h : Bytes) (letter : Letter) (why : TextWhy) → Within ts → ts ≡ c ∷ s ∷ d ∷ e ∷ h ∷ [] → RefusesLong (first_long c s d e h) (Err (Text letter why)) → Explains c s d e h (Text letter why) → NamesTexts (Text letter why) ts
+pub five-named : (ts : List Bytes) (c s d e h : Bytes) (letter : Letter) (why : TextWhy) → Within ts → ts ≡ c ∷ s ∷ d ∷ e ∷ h ∷ [] → RefusesLong (first_long c s d e h) (Err (Text letter why)) → Explains c s d e h (Text letter why) → VerifiesTo (outcome.Text letter (OfDevice why)) ts
 five-named ts c s d e h letter why within are long told =
-    subst (NamesTexts (Text letter why)) (sym are)
+    subst (VerifiesTo (outcome.Text letter (OfDevice why))) (sym are)
     (named c s d e h letter why (subst (λ o. RefusesLong o (Err (Text letter why))) (none-long c s d e h (subst Within are within)) long) told)
