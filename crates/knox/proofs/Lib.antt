@@ -5,3 +5,4 @@ pub mod WritingLemmas
 pub mod RunsLemmas
 pub mod CheckSteps
 pub mod OneEnd
+pub mod ConsequencesLemmas

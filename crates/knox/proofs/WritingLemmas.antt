@@ -36,6 +36,10 @@ put-none old text = record { done = []; whole = (Appends-none old.written, refl)
 pub put-all : (old now : Sunk) (text rest : Bytes) → HasPut old now text rest → rest ≡ [] → Whole old now text
 put-all old now text rest h none = subst (Whole old now) (sym (h.parts ∙ (ap (λ z. h.done ++ z) none ∙ append-nil h.done))) h.whole
 
+-- what is cut off and what is left
+pub parted : (n : ℕ) (rest line more : Bytes) → line ≡ take n rest → more ≡ drop n rest → rest ≡ line ++ more
+parted n rest line more p q = sym (take-append-drop n rest) ∙ (ap (λ z. z ++ drop n rest) (sym p) ∙ ap (λ z. line ++ z) (sym q))
+
 pub put-next : (old mid new : Sunk) (text rest line more : Bytes) → HasPut old mid text rest → rest ≡ line ++ more → Whole mid new line → HasPut old new text more
 put-next old mid new text rest line more h is w = record {
   done = h.done ++ line;

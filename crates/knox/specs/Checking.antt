@@ -101,5 +101,4 @@ ChecksTo _ f p = ⊥
 
 -- the same of a list of two texts
 abbrev pub ChecksTexts : Outcome → List Bytes → Type 0
-ChecksTexts o (f ∷ p ∷ []) = ChecksTo o f p
-ChecksTexts o ts = ⊥
+ChecksTexts o ts = (f : Bytes) × (p : Bytes) × (ts ≡ f ∷ p ∷ []) × ChecksTo o f p

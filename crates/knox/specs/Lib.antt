@@ -5,3 +5,4 @@ pub mod Reading
 pub mod Checking
 pub mod Writing
 pub mod Runs
+pub mod Consequences

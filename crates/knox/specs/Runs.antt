@@ -1,11 +1,16 @@
 -- A run as it is seen from outside, and why it ends as it does.
-use Rattle.std.specs.Prelude.{◌≡◌, ℕ, List, [], ◌∷◌, Option, Some, None, take, drop, ◌⊎◌, Result, Ok, Err}
+use Rattle.std.specs.Prelude.{◌≡◌, ℕ, List, [], ◌∷◌, Option, Some, None, take, drop, ◌⊎◌, Result, Ok, Err, IfOk, IfErr}
 use Rattle.knox_edge.specs.Texts.{Bytes, Reads}
 use Rattle.knox_edge.specs.Sink.{Sunk}
+use Rattle.knox_theory.specs.Agreement.{Agree}
 use Rattle.knox_verify.specs.declared.verdict.Verdict.{Verdict}
+use Rattle.knox_verify.specs.declared.verdict.Verdict.TheVariants.{Yes}
 use Rattle.knox_verify.specs.declared.verdict.VerifyFault.{VerifyFault}
 use Rattle.knox_verify.specs.declared.verdict.VerifyFault.TheVariants as refusal
-use Rattle.knox_verify.specs.Verdicts.{Judges, Explains, Names}
+use Rattle.knox_verify.specs.Judgements.{Parts, device, AllHold}
+use Rattle.knox_verify.specs.Meanings.{FiveTexts, Means}
+use Rattle.knox_verify.specs.Faults.{FirstFault, OrMemory}
+use Rattle.knox_verify.specs.Verdicts.{Decides}
 use Rattle.knox.specs.declared.command.Command.{Command}
 use Rattle.knox.specs.declared.command.Command.TheVariants.{Verify, Check}
 use Rattle.knox.specs.declared.status.Status.{Status}
@@ -62,13 +67,30 @@ IsOther (Some (Verify budget paths)) = ⊥
 IsOther (Some Check) = ⊥
 IsOther (Some _) = Unit {0}
 
--- what the outcome of a verification says of five texts
+-- what is known of the verification of five texts, whatever it answers
+pub record Verified (t : FiveTexts) (r : Result Verdict VerifyFault) : Type 0 where
+  pub agree : r ≡ Ok Yes → (p : Parts) × Means t p × Agree (device p)
+  pub closed : r ≡ Ok Yes → (p : Parts) × Means t p × AllHold p
+  pub yes : (p : Parts) → Means t p → AllHold p → (r ≡ Ok Yes) ⊎ (r ≡ Err refusal.Memory)
+  pub judged : IfOk r (λ v. (p : Parts) × Means t p × Decides p v)
+  pub meant : (p : Parts) → Means t p → IfErr r (λ f. f ≡ refusal.Memory)
+  pub refused : IfErr r (OrMemory (FirstFault t))
+  pub first_fault : (f : VerifyFault) → FirstFault t f → (r ≡ Err f) ⊎ (r ≡ Err refusal.Memory)
+
+-- the outcome of a verification
+abbrev pub outcome_of : Result Verdict VerifyFault → Outcome
+outcome_of (Ok v) = Judged v
+outcome_of (Err (refusal.Text letter why)) = Text letter (OfDevice why)
+outcome_of (Err refusal.NotYet) = Unbuilt
+outcome_of (Err refusal.Memory) = Memory
+
+-- this is said of a list of five texts
+abbrev pub OfFive : (FiveTexts → Type 0) → List Bytes → Type 0
+OfFive said ts = (t : FiveTexts) × (ts ≡ t.c ∷ t.s ∷ t.d ∷ t.e ∷ t.h ∷ []) × said t
+
+-- the outcome is that of the verification of five texts
 abbrev pub VerifiesTo : Outcome → List Bytes → Type 0
-VerifiesTo (Judged v) (c ∷ s ∷ d ∷ e ∷ h ∷ []) = Judges v c s d e h
-VerifiesTo (Text letter (OfDevice why)) (c ∷ s ∷ d ∷ e ∷ h ∷ []) = Names c s d e h (refusal.Text letter why)
-VerifiesTo Unbuilt (c ∷ s ∷ d ∷ e ∷ h ∷ []) = Explains c s d e h refusal.NotYet
-VerifiesTo Memory ts = Unit {0}
-VerifiesTo _ ts = ⊥
+VerifiesTo o = OfFive (λ t. (r : Result Verdict VerifyFault) × (o ≡ outcome_of r) × Verified t r)
 
 -- the outcome of a command that is built: a read was refused, or the texts were read and verified, or checked
 abbrev pub ComesTo : Command → List Bytes → Reads → Reads → Outcome → Type 0

@@ -1,13 +1,13 @@
 //! Gives texts that were read to the verifier, or to the checker of proofs.
 ghost use Rattle.std.specs.Prelude.{◌≡◌, ◌≤◌, ◌+◌, ◌^◌, length, drop};
 ghost use Rattle.knox.specs.Reading.{Within, texts_of};
-ghost use Rattle.knox.specs.Runs.{VerifiesTo};
+ghost use Rattle.knox.specs.Runs.{VerifiesTo, outcome_of};
 ghost use Rattle.knox.specs.Checking.{ChecksTexts};
 
 use crate::checking::check_texts;
 use crate::outcome::{Outcome, TextFault};
 use knox_edge::Shelf;
-use knox_verify::{VerifyFault, verify_texts};
+use knox_verify::{Verdict, VerifyFault, verify_texts};
 use std::alloc::Global;
 
 /// Verifies the five texts that a shelf gave last, of which this is the place of the first.
@@ -28,7 +28,14 @@ pub fn judge<F: Shelf>(
     let d = shelf.text(first + 2);
     let e = shelf.text(first + 3);
     let h = shelf.text(first + 4);
-    match verify_texts(alloc, c, s, d, e, h, budget, paths) {
+    outcome_of(verify_texts(alloc, c, s, d, e, h, budget, paths))
+}
+
+/// The outcome of a verification.
+fn outcome_of(verified: Result<Verdict, VerifyFault>) -> Outcome
+    ensures { result ≡ outcome_of verified }
+{
+    match verified {
         Ok(verdict) => Outcome::Judged(verdict),
         Err(VerifyFault::NotYet) => Outcome::Unbuilt,
         Err(VerifyFault::Memory) => Outcome::Memory,

@@ -3,6 +3,7 @@ ghost use Rattle.std.specs.Prelude.{◌≡◌, ◌≤◌, Some, take, length};
 ghost use Rattle.knox_edge.specs.Texts.{bytes_of};
 ghost use Rattle.knox.specs.Commands.{command_of};
 ghost use Rattle.knox.specs.Runs.{seen, Because, ComesTo, Ends, names_of};
+ghost use Rattle.knox.specs.Consequences.{SaysYes, SaysClosed, SaysUsage, IsComplete, IsCompleteYes, Explains, AsksPrefix};
 
 use crate::answer::{answer_of, deliver};
 use crate::command::{Command, read_command};
@@ -92,7 +93,14 @@ pub fn run<F: Shelf, O: Sink, E: Sink>(
     out: &mut O,
     err: &mut E,
 ) -> Status
+    ensures yes { SaysYes (seen (bytes_of words.now.items.items) (F.history shelf.old) (F.history shelf.new) (O.told out.old) (O.told out.new) (E.told err.old) (E.told err.new) result) }
+    ensures closed { SaysClosed (seen (bytes_of words.now.items.items) (F.history shelf.old) (F.history shelf.new) (O.told out.old) (O.told out.new) (E.told err.old) (E.told err.new) result) }
+    ensures complete { IsComplete (seen (bytes_of words.now.items.items) (F.history shelf.old) (F.history shelf.new) (O.told out.old) (O.told out.new) (E.told err.old) (E.told err.new) result) }
+    ensures complete_yes { IsCompleteYes (seen (bytes_of words.now.items.items) (F.history shelf.old) (F.history shelf.new) (O.told out.old) (O.told out.new) (E.told err.old) (E.told err.new) result) }
+    ensures usage { SaysUsage (seen (bytes_of words.now.items.items) (F.history shelf.old) (F.history shelf.new) (O.told out.old) (O.told out.new) (E.told err.old) (E.told err.new) result) }
+    ensures names { AsksPrefix (seen (bytes_of words.now.items.items) (F.history shelf.old) (F.history shelf.new) (O.told out.old) (O.told out.new) (E.told err.old) (E.told err.new) result) }
     ensures ends { Ends (seen (bytes_of words.now.items.items) (F.history shelf.old) (F.history shelf.new) (O.told out.old) (O.told out.new) (E.told err.old) (E.told err.new) result) }
+    ensures explained { Explains (seen (bytes_of words.now.items.items) (F.history shelf.old) (F.history shelf.new) (O.told out.old) (O.told out.new) (E.told err.old) (E.told err.new) result) result }
 {
     let words = words.items.as_slice();
     let outcome = work(alloc, words, shelf);

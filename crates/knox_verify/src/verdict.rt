@@ -4,8 +4,7 @@ use lang_read::LangFault;
 use script_core::{Choices, HintNo};
 use script_read::ScriptFault;
 
-/// A text of a command: a circuit, a specification, a driver, an emulator, a hint text, a trace, a
-/// formula or a goal, or a proof.
+/// A text of a verify command: its circuit, specification, driver, emulator or hint text.
 #[derive(Clone, Copy, Debug, PartialEq, Eq)]
 pub enum Letter {
     C,
@@ -13,9 +12,6 @@ pub enum Letter {
     D,
     E,
     H,
-    T,
-    F,
-    P,
 }
 
 /// What is wrong with a text.

@@ -1,5 +1,3 @@
-use Rattle.std.proofs.Common.{sym, subst}
-use Rattle.knox.specs.Checking.{ChecksTexts}
 use Rattle.knox.proofs.TextsLemmas.{two-drop, two-within}
 use Rattle.knox.proofs.judging.check_given.Goals as goal
 
@@ -11,6 +9,4 @@ check_texts-requires g c =
 
 pub returns : goal.returns
 returns g c =
-    subst (ChecksTexts c.check_texts.result)
-    (sym (two-drop _ c.args.first _ _ c.requires.two c.text-formula.ensures c.text-proof.ensures))
-    c.check_texts.ensures
+    (c.text-formula.result.now, c.text-proof.result.now, two-drop _ c.args.first _ _ c.requires.two c.text-formula.ensures c.text-proof.ensures, c.check_texts.ensures)

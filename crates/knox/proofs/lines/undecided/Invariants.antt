@@ -5,4 +5,4 @@ use Rattle.knox.specs.Lines.{spaced}
 use Rattle.knox.proofs.lines.undecided.Given as goal
 
 abbrev pub invariant-loop-word : goal.invariant-loop-word
-invariant-loop-word l = string_bytes l.lines ≡ (codes "undecided " ++ (decimal l.hint ++ codes "\nchoices")) ++ flat_map spaced (take l.word-index l.words)
+invariant-loop-word l = string_bytes l.lines ≡ (codes "undecided " ++ (decimal l.fn.hint ++ codes "\nchoices")) ++ flat_map spaced (take l.word-index l.words)
