@@ -1,10 +1,10 @@
 -- Deciding the segments of a script one after another: what is known where all hold, and at the first one that doesn't.
-use Rattle.std.proofs.Common.{◌≡◌, ℕ, zero, suc, ◌+◌, ◌<◌, ◌≤◌, List, [], ◌∷◌, ◌++◌, Option, Some, None, ◌⊎◌, length, slice_get, refl, sym, ◌∙◌, ap, subst, inl, inr, arith}
+use Rattle.std.proofs.Common.{◌≡◌, ℕ, zero, suc, ◌+◌, ◌<◌, ◌≤◌, List, [], ◌∷◌, ◌++◌, Some, length, slice_get, refl, sym, ◌∙◌, ap, subst, inl, inr, arith}
 use Rattle.std.proofs.Math.Nat.{eq-or-lt_of_le}
 use Rattle.knox_words.specs.Lists.{Words}
 use Rattle.knox_theory.specs.Design.{Design}
 use Rattle.knox_theory.specs.Script.{Script}
-use Rattle.knox_theory.specs.Course.{Safe, used}
+use Rattle.knox_theory.specs.Course.{Safe}
 use Rattle.knox_theory.specs.Segments.{Segment, segments}
 use Rattle.knox_theory.specs.Closed.{Closed, ClosedBelow, IsAmong}
 use Rattle.knox_theory.proofs.Listed.{safe-closed}
@@ -15,7 +15,7 @@ use Rattle.script_core.specs.declared.parts.Choices.{Choices}
 use Rattle.script_core.specs.declared.decide.Checked.{Checked}
 use Rattle.script_core.specs.declared.decide.Checked.TheVariants as checked
 use Rattle.script_core.specs.Decisions.{Falsifying, Checks}
-use Rattle.knox_verify.specs.Judgements.{Parts, design, hints, NarrowBefore, Narrow, Undecides, IsTooWide}
+use Rattle.knox_verify.specs.Judgements.{Parts, design, hints, NarrowBefore, Narrow, AllHold, Undecides, IsTooWide}
 
 -- where a segment stands on a list
 record Stands (g : Segment) (gs : List Segment) : Type 0 where
@@ -158,7 +158,7 @@ holds-held p n x there held is says =
     held-more (segments (design p) (hints p)) n there held known.0 known.1
 
 -- segments up to the last
-pub all-closed : (p : Parts) (n : ℕ) → length (segments (design p) (hints p)) ≤ n → HoldBelow (segments (design p) (hints p)) n → Closed (design p) (hints p) × Narrow p
+pub all-closed : (p : Parts) (n : ℕ) → length (segments (design p) (hints p)) ≤ n → HoldBelow (segments (design p) (hints p)) n → AllHold p
 all-closed p n all held =
     let held-all : HoldBelow (segments (design p) (hints p)) (length (segments (design p) (hints p))) = λ i x below there. held i x (omega (arith, below, all)) there in
-    (all-hold (design p) (hints p) held-all, all-narrow p held-all)
+    record { closed = all-hold (design p) (hints p) held-all; narrow = all-narrow p held-all }

@@ -1,3 +1,4 @@
 pub mod Deciding
 pub mod Agreed
-pub mod Meant
+pub mod MeaningsLemmas
+pub mod FaultsLemmas

@@ -1,7 +1,7 @@
+-- A device and a script as the parts of five texts, and what deciding the script says of them.
 use Rattle.std.specs.Prelude.{◌≡◌, ℕ, ◌<◌, List, ◌≤◌, ◌∷◌, ◌++◌}
 use Rattle.knox_words.specs.Lists.{Words}
 use Rattle.knox_theory.specs.Device.{Device}
-use Rattle.knox_theory.specs.Agreement.{Agree}
 use Rattle.knox_theory.specs.Design.{Design}
 use Rattle.knox_theory.specs.Script.{Script}
 use Rattle.knox_theory.specs.Segments.{Segment, segments}
@@ -51,12 +51,10 @@ pub record NarrowBefore (p : Parts) (g : Segment) : Type 0 where
 abbrev pub Narrow : Parts → Type 0
 Narrow p = (x : Segment) → IsAmong x (segments (design p) (hints p)) → counted x.choice_bits ≤ 20
 
--- No choices falsify a hint of the script, and no segment takes too many bits; so the worlds agree: whatever the factory noise, on every list of events, of calls by the host,
--- power-cycles at any moment, inputs that are set, outputs that are read and ticks.
-pub record Agrees (p : Parts) : Type 0 where
+-- the script is closed: no choices falsify a hint of it; and no segment takes too many bits
+pub record AllHold (p : Parts) : Type 0 where
   pub closed : Closed (design p) (hints p)
   pub narrow : Narrow p
-  pub agree : Agree (device p)
 
 -- these choices falsify a hint of a segment of at most 20 bits, and are the words that its run takes; no segment before it takes more, and no choices falsify a hint of one
 pub record Undecides (p : Parts) (hint : ℕ) (choices : Words) : Type 0 where

@@ -3,7 +3,7 @@
 //! nothing is wrong but that a form is missing.
 ghost use Rattle.std.specs.Prelude.{◌≡◌};
 ghost use Rattle.knox_verify.specs.declared.verdict.VerifyFault.TheVariants.{Memory};
-ghost use Rattle.knox_verify.specs.Faults.{of_circuit, of_driver, of_script};
+ghost use Rattle.knox_verify.specs.Faults.{of_driver};
 
 use crate::verdict::{Letter, TextWhy, VerifyFault};
 use knox_circuit::{BtorFault, Why};
@@ -17,6 +17,19 @@ impl From<AllocError> for VerifyFault {
 
     fn from(_e: AllocError) -> VerifyFault {
         VerifyFault::Memory
+    }
+}
+
+impl From<BtorFault> for VerifyFault {
+    ghost use Rattle.knox_verify.specs.Faults.{of_circuit};
+
+    ghost from_gives = { λ f fault. fault ≡ of_circuit f };
+
+    fn from(fault: BtorFault) -> VerifyFault {
+        match fault.why {
+            Why::Memory => VerifyFault::Memory,
+            _ => VerifyFault::Text(Letter::C, TextWhy::Circuit(fault)),
+        }
     }
 }
 
@@ -36,7 +49,7 @@ impl From<SexprFault> for VerifyFault {
 impl From<LangFault> for VerifyFault {
     ghost use Rattle.knox_verify.specs.Faults.{of_program};
 
-    ghost from_gives = { λ f fault. fault ≡ of_program f.why };
+    ghost from_gives = { λ f fault. fault ≡ of_program f };
 
     fn from(fault: LangFault) -> VerifyFault {
         match fault.why {
@@ -46,13 +59,17 @@ impl From<LangFault> for VerifyFault {
     }
 }
 
-/// The fault of a circuit's text, with its place.
-pub(crate) fn circuit_fault(fault: BtorFault) -> VerifyFault
-    ensures { result ≡ of_circuit fault }
-{
-    match fault.why {
-        Why::Memory => VerifyFault::Memory,
-        _ => VerifyFault::Text(Letter::C, TextWhy::Circuit(fault)),
+impl From<ScriptFault> for VerifyFault {
+    ghost use Rattle.knox_verify.specs.Faults.{of_script};
+
+    ghost from_gives = { λ f fault. fault ≡ of_script f };
+
+    fn from(fault: ScriptFault) -> VerifyFault {
+        match fault.why {
+            ScriptWhy::Memory => VerifyFault::Memory,
+            ScriptWhy::Missing => VerifyFault::Text(Letter::H, TextWhy::Script(fault)),
+            _ => VerifyFault::NotYet,
+        }
     }
 }
 
@@ -63,17 +80,6 @@ pub(crate) fn driver_fault(fault: LangFault) -> VerifyFault
     match fault.why {
         LangWhy::Memory => VerifyFault::Memory,
         LangWhy::Missing => VerifyFault::Text(Letter::D, TextWhy::Lang(fault)),
-        _ => VerifyFault::NotYet,
-    }
-}
-
-/// The fault of a text of hints: a form that is missing has its place.
-pub(crate) fn script_fault(fault: ScriptFault) -> VerifyFault
-    ensures { result ≡ of_script fault }
-{
-    match fault.why {
-        ScriptWhy::Memory => VerifyFault::Memory,
-        ScriptWhy::Missing => VerifyFault::Text(Letter::H, TextWhy::Script(fault)),
         _ => VerifyFault::NotYet,
     }
 }

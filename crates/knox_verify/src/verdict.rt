@@ -4,7 +4,7 @@ use lang_read::LangFault;
 use script_core::{Choices, HintNo};
 use script_read::ScriptFault;
 
-/// A text of a verify command: its circuit, specification, driver, emulator or hint text.
+/// A text of a command: a circuit, a specification, a driver, an emulator, hints, a trace, a formula or a proof.
 #[derive(Clone, Copy, Debug, PartialEq, Eq)]
 pub enum Letter {
     C,
@@ -12,6 +12,9 @@ pub enum Letter {
     D,
     E,
     H,
+    T,
+    F,
+    P,
 }
 
 /// What is wrong with a text.
@@ -32,8 +35,8 @@ pub enum TextWhy {
 pub enum VerifyFault {
     /// This text has a fault.
     Text(Letter, TextWhy),
-    /// The circuit's text means a circuit, and another text is in no form that is built yet and has
-    /// no fault that is told yet.
+    /// The circuit's text means a circuit, and the first text without a meaning is in no form that is
+    /// built yet and has no fault that is told yet.
     NotYet,
     /// Memory ran out. This says nothing of the texts.
     Memory,

@@ -1,30 +1,25 @@
 //! The verifier: five texts get their meaning, and then the script is decided segment by segment.
-ghost use Rattle.std.specs.Prelude.{◌≡◌, ◌≤◌, ◌⊎◌, length, None, IfOk, IfErr};
-ghost use Rattle.circuit_table.specs.declared.fault.BtorFault.{BtorFault};
-ghost use Rattle.btor_read.specs.Meaning.{FaultsAt};
-ghost use Rattle.expr_read.specs.declared.faults.LangFault.{LangFault};
-ghost use Rattle.script_read.specs.declared.fault.ScriptFault.{ScriptFault};
+ghost use Rattle.std.specs.Prelude.{◌≡◌, ◌⊎◌, length, Ok, Err, IfOk, IfErr};
+ghost use Rattle.knox_theory.specs.Agreement.{Agree};
 ghost use Rattle.script_core.specs.Hints.{ops_of};
-ghost use Rattle.knox_verify.specs.declared.verdict.Letter.TheVariants.{D, H};
-ghost use Rattle.knox_verify.specs.declared.verdict.TextWhy.TheVariants as why;
-ghost use Rattle.knox_verify.specs.declared.verdict.VerifyFault.TheVariants.{Text, Memory};
-ghost use Rattle.knox_verify.specs.Verdicts.{first_long, RefusesLong, Judges, Decided, Explains, Names, TellsCircuit};
-ghost use Rattle.knox_verify.specs.Judgements.{Parts, parts_of};
-ghost use Rattle.knox_verify.specs.Meanings.{Means, LacksCall, LacksForm};
+ghost use Rattle.knox_verify.specs.declared.verdict.Verdict.TheVariants.{Yes};
+ghost use Rattle.knox_verify.specs.declared.verdict.VerifyFault.{VerifyFault};
+ghost use Rattle.knox_verify.specs.declared.verdict.VerifyFault.TheVariants.{Memory};
+ghost use Rattle.knox_verify.specs.Judgements.{Parts, parts_of, device, AllHold};
+ghost use Rattle.knox_verify.specs.Meanings.{five, Means};
+ghost use Rattle.knox_verify.specs.Faults.{FirstFault, OrMemory};
+ghost use Rattle.knox_verify.specs.Verdicts.{Decides};
 
 use crate::meaning::{device_of, script_of};
-use crate::verdict::{Letter, TextWhy, Verdict, VerifyFault};
+use crate::verdict::{Verdict, VerifyFault};
 use emu_machine::Device;
 use script_core::{Checked, Script, SegmentNo, check};
 use std::alloc::Global;
 
-/// How many bytes a text may have.
-const LIMIT: usize = 67_108_864;
-
 /// Decides a script, segment after segment. The first one that is falsified or too wide decides.
 fn decide(alloc: Global, dev: &Device, sc: &Script) -> Result<Verdict, VerifyFault>
     requires of { length dev.now.spec.ops ≡ ops_of sc.now }
-    ensures decided { IfOk result (λ v. Decided v (parts_of dev.now sc.now)) }
+    ensures decided { IfOk result (Decides (parts_of dev.now sc.now)) }
     ensures memory { IfErr result (λ f. f ≡ Memory) }
 {
     for g in 0..sc.segments() {
@@ -37,8 +32,8 @@ fn decide(alloc: Global, dev: &Device, sc: &Script) -> Result<Verdict, VerifyFau
     Ok(Verdict::Yes)
 }
 
-/// The verdict on five texts that aren't too long.
-fn verify_short(
+/// What five texts mean, decided: of a yes, that the worlds agree.
+fn judge(
     alloc: Global,
     c: &[u8],
     s: &[u8],
@@ -46,18 +41,10 @@ fn verify_short(
     e: &[u8],
     h: &[u8],
 ) -> Result<Verdict, VerifyFault>
-    requires c { length c.now ≤ 67108864 }
-    requires s { length s.now ≤ 67108864 }
-    requires d { length d.now ≤ 67108864 }
-    requires e { length e.now ≤ 67108864 }
-    requires h { length h.now ≤ 67108864 }
-    ensures judged { IfOk result (λ v. Judges v c.now s.now d.now e.now h.now) }
-    ensures only { (p : Parts) → Means c.now s.now d.now e.now h.now p → IfErr result (λ f. f ≡ Memory) }
-    ensures call { (g : LangFault) → LacksCall c.now s.now d.now g → IfErr result (λ f. (f ≡ Memory) ⊎ (f ≡ Text D (why.Lang g))) }
-    ensures form { (g : ScriptFault) → LacksForm c.now s.now d.now e.now h.now g → IfErr result (λ f. (f ≡ Memory) ⊎ (f ≡ Text H (why.Script g))) }
-    ensures fault { IfErr result (Names c.now s.now d.now e.now h.now) }
+    ensures judged { IfOk result (λ v. (p : Parts) × Means (five c.now s.now d.now e.now h.now) p × Decides p v) }
+    ensures agree { result ≡ Ok Yes → (p : Parts) × Means (five c.now s.now d.now e.now h.now) p × Agree (device p) }
+    ensures refused { IfErr result (OrMemory (FirstFault (five c.now s.now d.now e.now h.now))) }
 {
-    knox_sexpr::one_meaning();
     let dev = device_of(alloc, c, s, d, e)?;
     let script = script_of(alloc, &dev, h)?;
     device_design::devices_are_designs(&dev);
@@ -67,9 +54,9 @@ fn verify_short(
     Ok(verdict)
 }
 
-/// The verdict on a circuit, a specification, a driver, an emulator and a hint text. A text that is
-/// too long comes before any fault, and the circuit's first fault before anything that is said of the
-/// other texts. The budget of lemmas and the number of paths have no effect yet.
+/// The verdict on a circuit, a specification, a driver, an emulator and a hint text. A refusal names
+/// the first of them that is too long or has no meaning. The budget of lemmas and the number of paths
+/// have no effect yet.
 pub fn verify_texts(
     alloc: Global,
     c: &[u8],
@@ -80,25 +67,23 @@ pub fn verify_texts(
     _budget: u64,
     _paths: u32,
 ) -> Result<Verdict, VerifyFault>
-    ensures judged { IfOk result (λ v. Judges v c.now s.now d.now e.now h.now) }
-    ensures refused { IfErr result (Explains c.now s.now d.now e.now h.now) }
-    ensures too_long { RefusesLong (first_long c.now s.now d.now e.now h.now) result }
-    ensures circuit { (first : BtorFault) → first_long c.now s.now d.now e.now h.now ≡ None → FaultsAt c.now first → TellsCircuit first result }
+    // A yes: the texts mean parts whose two worlds agree,
+    ensures agree { result ≡ Ok Yes → (p : Parts) × Means (five c.now s.now d.now e.now h.now) p × Agree (device p) }
+    // and whose script is closed.
+    ensures closed { result ≡ Ok Yes → (p : Parts) × Means (five c.now s.now d.now e.now h.now) p × AllHold p }
+    // Where they mean such parts, the answer is yes, unless memory runs out.
+    ensures yes { (p : Parts) → Means (five c.now s.now d.now e.now h.now) p → AllHold p → (result ≡ Ok Yes) ⊎ (result ≡ Err Memory) }
+    // What each verdict says of the parts that the texts mean.
+    ensures judged { IfOk result (λ v. (p : Parts) × Means (five c.now s.now d.now e.now h.now) p × Decides p v) }
+    // Texts that mean something are refused for want of memory alone.
+    ensures meant { (p : Parts) → Means (five c.now s.now d.now e.now h.now) p → IfErr result (λ f. f ≡ Memory) }
+    // They mean at most one thing.
+    ensures one_meaning { (p q : Parts) → Means (five c.now s.now d.now e.now h.now) p → Means (five c.now s.now d.now e.now h.now) q → p ≡ q }
+    // A refusal is their first fault,
+    ensures refused { IfErr result (OrMemory (FirstFault (five c.now s.now d.now e.now h.now))) }
+    // and where they have one, it is told, unless memory runs out.
+    ensures first_fault { (f : VerifyFault) → FirstFault (five c.now s.now d.now e.now h.now) f → (result ≡ Err f) ⊎ (result ≡ Err Memory) }
 {
-    if c.len() > LIMIT {
-        return Err(VerifyFault::Text(Letter::C, TextWhy::TooLong));
-    }
-    if s.len() > LIMIT {
-        return Err(VerifyFault::Text(Letter::S, TextWhy::TooLong));
-    }
-    if d.len() > LIMIT {
-        return Err(VerifyFault::Text(Letter::D, TextWhy::TooLong));
-    }
-    if e.len() > LIMIT {
-        return Err(VerifyFault::Text(Letter::E, TextWhy::TooLong));
-    }
-    if h.len() > LIMIT {
-        return Err(VerifyFault::Text(Letter::H, TextWhy::TooLong));
-    }
-    verify_short(alloc, c, s, d, e, h)
+    knox_sexpr::one_meaning();
+    judge(alloc, c, s, d, e, h)
 }

@@ -1,46 +1,22 @@
-use Rattle.std.proofs.Common.{rules, refl}
-use Rattle.knox_verify.specs.Meanings.{CallMissing}
-use Rattle.knox_verify.proofs.Meant.{not-both, driver-read, emulator-read, read-fit, driver-lacks, reads-refuses}
+use Rattle.std.proofs.lemmas.Result.{err_from_is_err_and}
+use Rattle.knox_verify.specs.Meanings.{five}
+use Rattle.knox_verify.proofs.FaultsLemmas.{of-driver, of-emulator, of-misfit, is-false}
 use Rattle.knox_verify.proofs.meaning.device_of.Goals as goal
 
-pub returns-in_err-spec-clause-only : goal.returns-in_err-spec-clause-only
-returns-in_err-spec-clause-only c circuit spec driver emulator m =
-    let said = c.in_err-spec.ensures.only spec m.spec_read in
-    search (rules, said)
+pub returns-in_err-driver-clause-refused : goal.returns-in_err-driver-clause-refused
+returns-in_err-driver-clause-refused c h =
+    let p = err_from_is_err_and c.from_residual-in_err-driver.result c.from_residual-in_err-driver.ensures.1 in
+    let f = c.in_err-driver.field-0.0 in
+    rw (p.1, p.2) (of-driver (five c.args.c.now c.args.s.now c.args.d.now c.args.e.now h) _ _ f c.in_ok-circuit.ensures.meant c.in_ok-spec.ensures.meant c.in_err-driver.ensures.fault)
 
-pub returns-in_err-driver-clause-only : goal.returns-in_err-driver-clause-only
-returns-in_err-driver-clause-only c circuit spec driver emulator m =
-    let said = c.in_err-driver.ensures.only driver (driver-read _ _ _ _ circuit spec driver emulator _ _ c.one_meaning.ensures.one m c.in_ok-circuit.ensures.meant c.in_ok-spec.ensures.meant) in
-    search (rules, said)
+pub returns-in_err-emulator-clause-refused : goal.returns-in_err-emulator-clause-refused
+returns-in_err-emulator-clause-refused c h =
+    let p = err_from_is_err_and c.from_residual-in_err-emulator.result c.from_residual-in_err-emulator.ensures.1 in
+    let f = c.in_err-emulator.field-0.0 in
+    rw (p.1, p.2) (of-emulator (five c.args.c.now c.args.s.now c.args.d.now c.args.e.now h) _ _ _ f c.in_ok-circuit.ensures.meant c.in_ok-spec.ensures.meant c.in_ok-driver.ensures.meant
+    c.in_err-emulator.ensures.fault)
 
-pub returns-in_err-emulator-clause-only : goal.returns-in_err-emulator-clause-only
-returns-in_err-emulator-clause-only c circuit spec driver emulator m =
-    let said = c.in_err-emulator.ensures.only emulator
-    (emulator-read _ _ _ _ circuit spec driver emulator _ _ _ c.one_meaning.ensures.one m c.in_ok-circuit.ensures.meant c.in_ok-spec.ensures.meant c.in_ok-driver.ensures.meant) in
-    search (rules, said)
-
-pub returns-in-None-clause-only : goal.returns-in-None-clause-only
-returns-in-None-clause-only c circuit spec driver emulator m =
-    let fit = read-fit _ _ _ _ circuit spec driver emulator _ _ _ _ c.one_meaning.ensures.one m c.in_ok-circuit.ensures.meant c.in_ok-spec.ensures.meant
-    c.in_ok-driver.ensures.meant c.in_ok-emulator.ensures.meant in
-    absurd (not-both _ (c.in-None.ensures.some.1 fit) refl)
-
-pub returns-in_err-spec-clause-lacks : goal.returns-in_err-spec-clause-lacks
-returns-in_err-spec-clause-lacks c g l =
-    let said = c.in_err-spec.ensures.only l.spec l.spec_read in
-    search (rules, said)
-
-pub returns-in-None-clause-lacks : goal.returns-in-None-clause-lacks
-returns-in-None-clause-lacks c g l =
-    reads-refuses CallMissing _ _ _ g c.one_meaning.ensures.one c.in_ok-driver.ensures.meant
-    (driver-lacks _ _ _ g _ _ c.one_meaning.ensures.one l c.in_ok-circuit.ensures.meant c.in_ok-spec.ensures.meant)
-
-pub returns-in_err-driver-clause-lacks : goal.returns-in_err-driver-clause-lacks
-returns-in_err-driver-clause-lacks c g l =
-    let said = c.in_err-driver.ensures.lacks g (driver-lacks _ _ _ g _ _ c.one_meaning.ensures.one l c.in_ok-circuit.ensures.meant c.in_ok-spec.ensures.meant) in
-    search (rules, said)
-
-pub returns-in_err-emulator-clause-lacks : goal.returns-in_err-emulator-clause-lacks
-returns-in_err-emulator-clause-lacks c g l =
-    reads-refuses CallMissing _ _ _ g c.one_meaning.ensures.one c.in_ok-driver.ensures.meant
-    (driver-lacks _ _ _ g _ _ c.one_meaning.ensures.one l c.in_ok-circuit.ensures.meant c.in_ok-spec.ensures.meant)
+pub returns-in-None-clause-refused : goal.returns-in-None-clause-refused
+returns-in-None-clause-refused c h =
+    of-misfit (five c.args.c.now c.args.s.now c.args.d.now c.args.e.now h) _ _ _ _ c.in_ok-circuit.ensures.meant c.in_ok-spec.ensures.meant c.in_ok-driver.ensures.meant c.in_ok-emulator.ensures.meant
+    (is-false _ c.in-None.ensures.some.1)

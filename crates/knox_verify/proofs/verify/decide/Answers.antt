@@ -1,6 +1,6 @@
 use Rattle.std.proofs.Common.{◌<◌, ◌≤◌, ℕ, sym, subst}
 use Rattle.knox_verify.specs.Judgements.{parts_of}
-use Rattle.knox_verify.proofs.Deciding.{falsified-undecided, wide-named, holds-held, all-closed, none-below}
+use Rattle.knox_verify.proofs.Deciding.{falsified-undecided, wide-named, all-closed}
 use Rattle.knox_verify.proofs.verify.decide.Goals as goal
 
 pub returns-in-Falsified-clause-decided : goal.returns-in-Falsified-clause-decided

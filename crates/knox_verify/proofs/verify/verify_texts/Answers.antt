@@ -1,8 +1,19 @@
-use Rattle.knox_verify.proofs.Meant.{explained-result, tells-circuit}
+use Rattle.knox_verify.specs.Meanings.{five}
+use Rattle.knox_verify.proofs.MeaningsLemmas.{means-one}
+use Rattle.knox_verify.proofs.FaultsLemmas.{meant-memory, first-told, yes-told}
 use Rattle.knox_verify.proofs.verify.verify_texts.Goals as goal
 
-pub returns-clause-refused : goal.returns-clause-refused
-returns-clause-refused c = explained-result _ _ _ _ _ c.verify_short.result c.verify_short.ensures.only c.verify_short.ensures.call c.verify_short.ensures.form c.verify_short.ensures.fault
+pub returns-clause-yes : goal.returns-clause-yes
+returns-clause-yes c = λ p m held.
+    yes-told c.one_meaning.ensures.one (five c.args.c.now c.args.s.now c.args.d.now c.args.e.now c.args.h.now) p c.judge.result m held c.judge.ensures.judged c.judge.ensures.refused
 
-pub returns-clause-circuit : goal.returns-clause-circuit
-returns-clause-circuit c = λ first short faults. tells-circuit _ _ _ _ _ first c.verify_short.result faults c.verify_short.ensures.judged c.verify_short.ensures.fault
+pub returns-clause-meant : goal.returns-clause-meant
+returns-clause-meant c = λ p m.
+    meant-memory c.one_meaning.ensures.one (five c.args.c.now c.args.s.now c.args.d.now c.args.e.now c.args.h.now) p c.judge.result m c.judge.ensures.refused
+
+pub returns-clause-one_meaning : goal.returns-clause-one_meaning
+returns-clause-one_meaning c = means-one c.one_meaning.ensures.one (five c.args.c.now c.args.s.now c.args.d.now c.args.e.now c.args.h.now)
+
+pub returns-clause-first_fault : goal.returns-clause-first_fault
+returns-clause-first_fault c = λ f bad.
+    first-told c.one_meaning.ensures.one (five c.args.c.now c.args.s.now c.args.d.now c.args.e.now c.args.h.now) f c.judge.result bad c.judge.ensures.judged c.judge.ensures.refused
