@@ -28,7 +28,7 @@ use Rattle.knox.specs.Outcomes.{status_of, to_out, to_err}
 use Rattle.knox.specs.Reading.{ReadWhole, ReadUpTo, RefusesRead, OfTexts, texts_of}
 use Rattle.knox.specs.Runs.{Seen, IsVerify, IsCheck, IsOther, Verified as IsVerified, VerifiesTo, OfFive, outcome_of, Because, Ends, names_of}
 use Rattle.knox.specs.Writing.{StopsBoth}
-use Rattle.knox.specs.Consequences.{Wrote, SaysYes, SaysClosed, SaysUsage, Explains, AsksPrefix, IsUnhindered, IsVerdict, IsComplete, IsCompleteYes}
+use Rattle.knox.specs.Consequences.{Wrote, SaysYes, SaysClosed, SaysOneMeaning, SaysUsage, Explains, AsksPrefix, IsUnhindered, IsVerdict, IsComplete, IsCompleteYes}
 
 -- ---- the ways to an outcome
 
@@ -126,6 +126,12 @@ says-closed s ends is =
     let h = subst (Explains s) is (explained s ends) in
     let five = h.0.1.1 in
     (h.0.0, (h.0.1.0, (five.0, five.1, five.2.closed refl)))
+
+pub says-one-meaning : (s : Seen) → Ends s → SaysOneMeaning s
+says-one-meaning s ends is =
+    let h = subst (Explains s) is (explained s ends) in
+    let five = h.0.1.1 in
+    (h.0.0, (h.0.1.0, (five.0, five.1, five.2.one_meaning)))
 
 -- ---- the names that were asked
 

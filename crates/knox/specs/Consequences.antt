@@ -51,6 +51,10 @@ SaysYes s = s.status ≡ status.Yes → OfVerified s (λ t. (p : Parts) × Means
 abbrev pub SaysClosed : Seen → Type 0
 SaysClosed s = s.status ≡ status.Yes → OfVerified s (λ t. (p : Parts) × Means t p × AllHold p)
 
+-- the texts of a yes mean one thing alone
+abbrev pub SaysOneMeaning : Seen → Type 0
+SaysOneMeaning s = s.status ≡ status.Yes → OfVerified s (λ t. (p q : Parts) → Means t p → Means t q → p ≡ q)
+
 -- the five texts have this verdict, which was written
 abbrev pub Judged : Seen → Verdict → Type 0
 Judged s v = OfVerified s (λ t. IsVerified t (Ok v)) × Wrote s (verdict_lines v) []

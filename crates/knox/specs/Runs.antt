@@ -74,6 +74,7 @@ pub record Verified (t : FiveTexts) (r : Result Verdict VerifyFault) : Type 0 wh
   pub yes : (p : Parts) → Means t p → AllHold p → (r ≡ Ok Yes) ⊎ (r ≡ Err refusal.Memory)
   pub judged : IfOk r (λ v. (p : Parts) × Means t p × Decides p v)
   pub meant : (p : Parts) → Means t p → IfErr r (λ f. f ≡ refusal.Memory)
+  pub one_meaning : (p q : Parts) → Means t p → Means t q → p ≡ q
   pub refused : IfErr r (OrMemory (FirstFault t))
   pub first_fault : (f : VerifyFault) → FirstFault t f → (r ≡ Err f) ⊎ (r ≡ Err refusal.Memory)
 

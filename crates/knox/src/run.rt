@@ -3,7 +3,7 @@ ghost use Rattle.std.specs.Prelude.{◌≡◌, ◌≤◌, Some, take, length};
 ghost use Rattle.knox_edge.specs.Texts.{bytes_of};
 ghost use Rattle.knox.specs.Commands.{command_of};
 ghost use Rattle.knox.specs.Runs.{seen, Because, ComesTo, Ends, names_of};
-ghost use Rattle.knox.specs.Consequences.{SaysYes, SaysClosed, SaysUsage, IsComplete, IsCompleteYes, Explains, AsksPrefix};
+ghost use Rattle.knox.specs.Consequences.{SaysYes, SaysClosed, SaysOneMeaning, SaysUsage, IsComplete, IsCompleteYes, Explains, AsksPrefix};
 
 use crate::answer::{answer_of, deliver};
 use crate::command::{Command, read_command};
@@ -78,12 +78,10 @@ fn work<F: Shelf>(alloc: Global, words: &[Vec<u8>], shelf: &mut F) -> Outcome
 /// verdict goes to `out`, and a usage line, a fault or `not yet` goes to `err`.
 ///
 /// - `Usage` comes where the words are no command, and nothing is read.
-/// - `NotYet` comes where the command isn't built, and then nothing is read, or where the circuit's
-///   text means one and another text is in no form that is built.
-/// - `ReadFault` and `Text` come where a read was refused; `Text` also where a text of a check or a
-///   circuit's text has a fault, and where a driver lacks nothing but a call, or hints nothing but a
-///   form.
-/// - The first fault of a circuit's text comes before anything that is said of the other texts.
+/// - `NotYet` comes where the command isn't built, and then nothing is read, or where the first of
+///   five texts without a meaning is in no form that is built.
+/// - `ReadFault` and `Text` come where a read was refused; `Text` also with the first fault of a
+///   check's texts, or of five texts where it is told.
 /// - `WriteFault` comes in place of the status that was to come, where a put failed.
 /// - `Memory` may come at any point.
 pub fn run<F: Shelf, O: Sink, E: Sink>(
@@ -95,6 +93,7 @@ pub fn run<F: Shelf, O: Sink, E: Sink>(
 ) -> Status
     ensures yes { SaysYes (seen (bytes_of words.now.items.items) (F.history shelf.old) (F.history shelf.new) (O.told out.old) (O.told out.new) (E.told err.old) (E.told err.new) result) }
     ensures closed { SaysClosed (seen (bytes_of words.now.items.items) (F.history shelf.old) (F.history shelf.new) (O.told out.old) (O.told out.new) (E.told err.old) (E.told err.new) result) }
+    ensures one_meaning { SaysOneMeaning (seen (bytes_of words.now.items.items) (F.history shelf.old) (F.history shelf.new) (O.told out.old) (O.told out.new) (E.told err.old) (E.told err.new) result) }
     ensures complete { IsComplete (seen (bytes_of words.now.items.items) (F.history shelf.old) (F.history shelf.new) (O.told out.old) (O.told out.new) (E.told err.old) (E.told err.new) result) }
     ensures complete_yes { IsCompleteYes (seen (bytes_of words.now.items.items) (F.history shelf.old) (F.history shelf.new) (O.told out.old) (O.told out.new) (E.told err.old) (E.told err.new) result) }
     ensures usage { SaysUsage (seen (bytes_of words.now.items.items) (F.history shelf.old) (F.history shelf.new) (O.told out.old) (O.told out.new) (E.told err.old) (E.told err.new) result) }

@@ -16,6 +16,7 @@ returns g c =
           yes = said.yes;
           judged = said.judged;
           meant = said.meant;
+          one_meaning = said.one_meaning;
           refused = said.refused;
           first_fault = said.first_fault;
         },
