@@ -11,13 +11,7 @@ use knox_verify::{Verdict, VerifyFault, verify_texts};
 use std::alloc::Global;
 
 /// Verifies the five texts that a shelf gave last, of which this is the place of the first.
-pub fn judge<F: Shelf>(
-    alloc: Global,
-    shelf: &F,
-    first: usize,
-    budget: u64,
-    paths: u32,
-) -> Outcome
+pub fn judge<F: Shelf>(alloc: Global, shelf: &F, first: usize, budget: u64, paths: u32) -> Outcome
     requires five { length (drop first (F.history shelf.now).given) ≡ 5 }
     requires within { Within (texts_of (drop first (F.history shelf.now).given)) }
     requires places { first + 5 ≤ 2 ^ 64 }
