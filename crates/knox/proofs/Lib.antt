@@ -1,9 +1,8 @@
 pub mod Digits
 pub mod ReadSteps
-pub mod FiveTexts
-pub mod Written
-pub mod Verified
-pub mod Explained
-pub mod FirstFault
+pub mod TextsLemmas
+pub mod WritingLemmas
+pub mod RunsLemmas
 pub mod CheckSteps
 pub mod OneEnd
+pub mod ConsequencesLemmas

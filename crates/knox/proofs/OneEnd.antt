@@ -1,5 +1,5 @@
 -- The check of two texts has one end, or one fault.
-use Rattle.std.proofs.Common.{◌≡◌, ◌∙◌, ℕ, zero, suc, List, [], ◌∷◌, ◌++◌, ap, sym, refl, subst, Result, Ok, Err, true, false}
+use Rattle.std.proofs.Common.{◌≡◌, ◌∙◌, ℕ, List, [], ◌∷◌, ◌++◌, ap, sym, refl, subst, Result, Ok, Err, true, false}
 use Rattle.std.proofs.lemmas.Bool.{true≢false}
 use Rattle.knox_edge.specs.Texts.{Bytes}
 use Rattle.lrat_check.specs.declared.step.Step.{Step}
@@ -8,6 +8,8 @@ use Rattle.proof_text.specs.declared.fault.ProofFault.{ProofFault}
 use Rattle.proof_text.specs.declared.proof_line.ProofLine.{ProofLine}
 use Rattle.proof_text.specs.Dimacs.{cnf_of}
 use Rattle.proof_text.specs.Lrat.{lrat_of}
+use Rattle.knox_verify.specs.declared.verdict.Letter.{Letter}
+use Rattle.knox_verify.specs.declared.verdict.Letter.TheVariants.{F, P}
 use Rattle.knox.specs.declared.checking.CheckEnd.{CheckEnd}
 use Rattle.knox.specs.declared.checking.CheckEnd.TheVariants.{Verified, Rejected, NoEmptyClause}
 use Rattle.knox.specs.Checking.{line_number, with_line, Accepts, Refuses, EndsAs, Checks, HasFault}
@@ -86,16 +88,16 @@ one-end f p a b x y =
     ends-once (start_of y.formula) y.lines a b
     (subst (λ ls. EndsAs (start_of y.formula) ls a) lines (subst (λ z. EndsAs (start_of z) x.lines a) formula x.ends)) y.ends
 
-pub no-fault : (f p : Bytes) (a : CheckEnd) (which : ℕ) (why : ProofFault) → Checks a f p → HasFault which why f p → ⊥
-no-fault f p a zero why x h = never-both (cnf_of f) x.formula why x.formula_meant h
-no-fault f p a (suc zero) why x h = never-both (lrat_of p) x.lines why x.lines_meant h.2
-no-fault f p a (suc (suc n)) why x h = absurd h
+pub no-fault : (f p : Bytes) (a : CheckEnd) (letter : Letter) (why : ProofFault) → Checks a f p → HasFault letter why f p → ⊥
+no-fault f p a F why x h = never-both (cnf_of f) x.formula why x.formula_meant h
+no-fault f p a P why x h = never-both (lrat_of p) x.lines why x.lines_meant h.2
+no-fault f p a _ why x h = absurd h
 
-pub one-fault : (f p : Bytes) (which other : ℕ) (why how : ProofFault) → HasFault which why f p → HasFault other how f p → (which ≡ other) × (why ≡ how)
-one-fault f p zero zero why how h k = (refl, same-err (cnf_of f) why how h k)
-one-fault f p zero (suc zero) why how h k = absurd (never-both (cnf_of f) k.0 why k.1 h)
-one-fault f p (suc zero) zero why how h k = absurd (never-both (cnf_of f) h.0 how h.1 k)
-one-fault f p (suc zero) (suc zero) why how h k = (refl, same-err (lrat_of p) why how h.2 k.2)
-one-fault f p zero (suc (suc n)) why how h k = absurd k
-one-fault f p (suc zero) (suc (suc n)) why how h k = absurd k
-one-fault f p (suc (suc m)) other why how h k = absurd h
+pub one-fault : (f p : Bytes) (letter other : Letter) (why how : ProofFault) → HasFault letter why f p → HasFault other how f p → (letter ≡ other) × (why ≡ how)
+one-fault f p F F why how h k = (refl, same-err (cnf_of f) why how h k)
+one-fault f p F P why how h k = absurd (never-both (cnf_of f) k.0 why k.1 h)
+one-fault f p P F why how h k = absurd (never-both (cnf_of f) h.0 how h.1 k)
+one-fault f p P P why how h k = (refl, same-err (lrat_of p) why how h.2 k.2)
+one-fault f p F _ why how h k = absurd k
+one-fault f p P _ why how h k = absurd k
+one-fault f p _ other why how h k = absurd h

@@ -1,6 +1,6 @@
 -- What checking a proof of a formula comes to. The lines of the proof are taken in order, each against the derivation that the lines before it
 -- have led to. Standard: LRAT without RAT lines, by the definitions of `lrat_check`; DIMACS, by those of `knox_cnf`.
-use Rattle.std.specs.Prelude.{◌≡◌, ℕ, zero, suc, Bool, true, false, List, [], ◌∷◌, ◌++◌, Result, Ok, Err}
+use Rattle.std.specs.Prelude.{◌≡◌, ℕ, Bool, true, false, List, [], ◌∷◌, ◌++◌, Result, Ok, Err}
 use Rattle.knox_edge.specs.Texts.{Bytes}
 use Rattle.knox_cnf.specs.Formulas.{clauses_true}
 use Rattle.knox_cnf.specs.declared.formula.Cnf.{Cnf}
@@ -15,8 +15,11 @@ use Rattle.proof_text.specs.Dimacs.{cnf_of}
 use Rattle.proof_text.specs.Lrat.{lrat_of}
 use Rattle.knox.specs.declared.checking.CheckEnd.{CheckEnd}
 use Rattle.knox.specs.declared.checking.CheckEnd.TheVariants.{Verified, Rejected, NoEmptyClause}
-use Rattle.knox.specs.declared.checking.Unchecked.{Unchecked}
-use Rattle.knox.specs.declared.checking.Unchecked.TheVariants.{Faulty, Memory}
+use Rattle.knox_verify.specs.declared.verdict.Letter.{Letter}
+use Rattle.knox_verify.specs.declared.verdict.Letter.TheVariants.{F, P}
+use Rattle.knox.specs.declared.outcome.Outcome.{Outcome}
+use Rattle.knox.specs.declared.outcome.Outcome.TheVariants.{Text, Checked, Memory}
+use Rattle.knox.specs.declared.outcome.TextFault.TheVariants.{OfProof}
 
 -- ---- one line
 
@@ -78,27 +81,24 @@ pub record Checks (end : CheckEnd) (f p : Bytes) : Type 0 where
   pub ends : EndsAs (start_of formula) lines end
   pub shows : Shows end formula
 
--- the first text that has a fault, and its first fault: the formula's text is number 0, the proof's is number 1
-abbrev pub HasFault : ℕ → ProofFault → Bytes → Bytes → Type 0
-HasFault zero why f p = cnf_of f ≡ Err why
-HasFault (suc zero) why f p = (formula : Cnf) × (cnf_of f ≡ Ok formula) × (lrat_of p ≡ Err why)
+-- the first text that has a fault, and its first fault
+abbrev pub HasFault : Letter → ProofFault → Bytes → Bytes → Type 0
+HasFault F why f p = cnf_of f ≡ Err why
+HasFault P why f p = (formula : Cnf) × (cnf_of f ≡ Ok formula) × (lrat_of p ≡ Err why)
 HasFault _ why f p = ⊥
 
 -- a fault of a text, or want of memory
-abbrev pub cause_of : ℕ → ProofFault → Unchecked
-cause_of which fault.Memory = Memory
-cause_of which f = Faulty which f
+abbrev pub cause_of : Letter → ProofFault → Outcome
+cause_of letter fault.Memory = Memory
+cause_of letter f = Text letter (OfProof f)
 
--- why the two texts are not checked
-abbrev pub Unchecks : Unchecked → Bytes → Bytes → Type 0
-Unchecks (Faulty which why) f p = HasFault which why f p
-Unchecks Memory f p = Unit {0}
+-- what the outcome of a check says of its texts
+abbrev pub ChecksTo : Outcome → Bytes → Bytes → Type 0
+ChecksTo (Checked end) f p = Checks end f p
+ChecksTo (Text letter (OfProof why)) f p = HasFault letter why f p
+ChecksTo Memory f p = Unit {0}
+ChecksTo _ f p = ⊥
 
 -- the same of a list of two texts
-abbrev pub ChecksTexts : CheckEnd → List Bytes → Type 0
-ChecksTexts end (f ∷ p ∷ []) = Checks end f p
-ChecksTexts end ts = ⊥
-
-abbrev pub UnchecksTexts : Unchecked → List Bytes → Type 0
-UnchecksTexts why (f ∷ p ∷ []) = Unchecks why f p
-UnchecksTexts why ts = ⊥
+abbrev pub ChecksTexts : Outcome → List Bytes → Type 0
+ChecksTexts o ts = (f : Bytes) × (p : Bytes) × (ts ≡ f ∷ p ∷ []) × ChecksTo o f p

@@ -1,105 +1,121 @@
--- What each status of a run says.
-use Rattle.std.specs.Prelude.{◌≡◌, ℕ, List, [], ◌∷◌, ◌++◌, Option, None, take, slice_index_or, ◌⊎◌}
-use Rattle.knox_edge.specs.declared.shelf.ShelfEnd.TheVariants.{Failed, TooLong}
+-- What is known of a run by its status.
+use Rattle.std.specs.Prelude.{◌≡◌, ℕ, ◌+◌, List, [], ◌++◌, Option, Some, None, Ok, Err, Result, codes, take, slice_index_or, ◌⊎◌}
+use Rattle.knox_theory.specs.Agreement.{Agree}
+use Rattle.knox_edge.specs.declared.shelf.ShelfEnd.TheVariants.{Failed}
 use Rattle.knox_edge.specs.Counts.{Rose}
-use Rattle.knox_edge.specs.Texts.{Bytes, Reads}
-use Rattle.knox.specs.declared.status.Status.{Status}
-use Rattle.knox.specs.declared.status.Status.TheVariants as status
-use Rattle.knox_circuit.specs.BtorFault.{BtorFault}
-use Rattle.btor_read.specs.Meaning.{FaultsAt}
+use Rattle.knox_edge.specs.Texts.{Bytes, limit}
 use Rattle.script_core.specs.declared.parts.HintNo.{HintNo}
 use Rattle.script_core.specs.declared.parts.Choices.{Choices}
+use Rattle.lrat_check.specs.declared.step.Step.{Step}
 use Rattle.knox_verify.specs.declared.verdict.Letter.{Letter}
-use Rattle.knox_verify.specs.declared.verdict.Letter.TheVariants.{C}
 use Rattle.knox_verify.specs.declared.verdict.TextWhy.{TextWhy}
-use Rattle.knox_verify.specs.declared.verdict.TextWhy.TheVariants.{Circuit}
 use Rattle.knox_verify.specs.declared.verdict.VerifyFault.TheVariants as refusal
 use Rattle.knox_verify.specs.declared.verdict.Verdict.{Verdict}
 use Rattle.knox_verify.specs.declared.verdict.Verdict.TheVariants.{Yes, Undecided, TooWide}
-use Rattle.lrat_check.specs.declared.step.Step.{Step}
-use Rattle.proof_text.specs.declared.fault.ProofFault.{ProofFault}
+use Rattle.knox_verify.specs.Judgements.{Parts, device, AllHold}
+use Rattle.knox_verify.specs.Meanings.{FiveTexts, Means}
+use Rattle.knox_verify.specs.Faults.{FirstFault}
 use Rattle.knox.specs.declared.command.Command.{Command}
+use Rattle.knox.specs.declared.status.Status.{Status}
+use Rattle.knox.specs.declared.status.Status.TheVariants as status
 use Rattle.knox.specs.declared.checking.CheckEnd.{CheckEnd}
 use Rattle.knox.specs.declared.checking.CheckEnd.TheVariants.{Verified, Rejected, NoEmptyClause}
-use Rattle.knox.specs.declared.checking.Unchecked.TheVariants.{Faulty}
+use Rattle.knox.specs.declared.outcome.Outcome.{Outcome}
+use Rattle.knox.specs.declared.outcome.Outcome.TheVariants as outcome
+use Rattle.knox.specs.declared.outcome.TextFault.{TextFault}
+use Rattle.knox.specs.declared.outcome.TextFault.TheVariants.{OfDevice}
 use Rattle.knox.specs.Commands.{command_of}
-use Rattle.knox.specs.Checking.{ChecksTexts, UnchecksTexts}
-use Rattle.knox.specs.CheckLines.{check_line, fault_line}
-use Rattle.knox.specs.Reading.{ReadWhole, ReadUpTo, texts_of}
-use Rattle.knox.specs.Verdicts.{JudgesTexts, InNoForm, NamesTexts, printed}
-use Rattle.knox.specs.TextLines.{text_line}
-use Rattle.knox.specs.Lines.{usage_line, not_yet_line, cannot_read_line, letters_of, letter_at, too_long_line}
-use Rattle.knox.specs.Runs.{IsVerify, IsCheck, IsOther, Sunk, Whole, names_of}
+use Rattle.knox.specs.Checking.{ChecksTexts}
+use Rattle.knox.specs.Lines.{usage_line, not_yet_line, cannot_read_line, text_line, check_line, verdict_lines}
+use Rattle.knox.specs.Reading.{ReadWhole, ReadUpTo, RefusesRead, OfTexts, texts_of}
+use Rattle.knox.specs.Runs.{Seen, IsVerify, IsCheck, IsOther, Verified as IsVerified, OfFive, names_of}
+use Rattle.knox.specs.Writing.{Whole}
 
--- the five texts were read and have this verdict, which was written to `out`, and nothing to `err`
-abbrev pub Judged : List Bytes → Reads → Reads → Sunk → Sunk → Sunk → Sunk → Verdict → Type 0
-Judged ws before after out out' err err' verdict =
-    IsVerify (command_of ws)
-    × ((whole : ReadWhole (names_of ws) before after) × JudgesTexts verdict (texts_of whole.entries))
-    × Whole out out' (printed verdict) × Whole err err' []
+-- the words are a verify command, the shelf gave five texts, and this is said of them
+abbrev pub OfVerified : Seen → (FiveTexts → Type 0) → Type 0
+OfVerified s said = IsVerify (command_of s.words) × OfTexts (OfFive said) (names_of s.words) s.before s.after
 
--- the two texts were read, and their check ends so, which was written to `out`, and nothing to `err`
-abbrev pub CheckedAs : List Bytes → Reads → Reads → Sunk → Sunk → Sunk → Sunk → CheckEnd → Type 0
-CheckedAs ws before after out out' err err' end =
-    IsCheck (command_of ws)
-    × ((whole : ReadWhole (names_of ws) before after) × ChecksTexts end (texts_of whole.entries))
-    × Whole out out' (check_line end) × Whole err err' []
+-- the words are a check command, the shelf gave two texts, and this is the outcome of their check
+abbrev pub OfChecked : Seen → Outcome → Type 0
+OfChecked s o = IsCheck (command_of s.words) × OfTexts (ChecksTexts o) (names_of s.words) s.before s.after
 
--- the two texts were read, and one has a fault, which was written to `err`, and nothing to `out`
-abbrev pub Unreadable : List Bytes → Reads → Reads → Sunk → Sunk → Sunk → Sunk → Type 0
-Unreadable ws before after out out' err err' =
-    (which : ℕ) × (why : ProofFault) × IsCheck (command_of ws)
-    × ((whole : ReadWhole (names_of ws) before after) × UnchecksTexts (Faulty which why) (texts_of whole.entries))
-    × Whole out out' [] × Whole err err' (fault_line (letter_at (letters_of (command_of ws)) which) why)
+-- where it is told, these texts were appended to `out` and to `err`, and no put failed
+abbrev pub Wrote : Seen → Bytes → Bytes → Type 0
+Wrote s out err = Whole s.out_before s.out_after out × Whole s.err_before s.err_after err
 
--- the five texts were read, and one has a fault that is told, the first of a circuit's text among them; it was written to `err`, and nothing to `out`
-abbrev pub FaultsText : List Bytes → Reads → Reads → Sunk → Sunk → Sunk → Sunk → Type 0
-FaultsText ws before after out out' err err' =
-    (letter : Letter) × (why : TextWhy) × IsVerify (command_of ws)
-    × ((whole : ReadWhole (names_of ws) before after) × NamesTexts (refusal.Text letter why) (texts_of whole.entries))
-    × Whole out out' [] × Whole err err' (text_line letter why)
+-- What a yes says: the words are a verify command, the shelf gave five texts, these mean parts whose two worlds agree, and `yes` was written to `out`, and nothing to `err`.
+abbrev pub SaysYes : Seen → Type 0
+SaysYes s = s.status ≡ status.Yes → OfVerified s (λ t. (p : Parts) × Means t p × Agree (device p)) × Wrote s (codes "yes\n") []
 
--- a command that is built
-abbrev pub IsBuilt : Option Command → Type 0
-IsBuilt command = IsVerify command ⊎ IsCheck command
+-- the script of a yes is closed
+abbrev pub SaysClosed : Seen → Type 0
+SaysClosed s = s.status ≡ status.Yes → OfVerified s (λ t. (p : Parts) × Means t p × AllHold p)
+
+-- the texts of a yes mean one thing alone
+abbrev pub SaysOneMeaning : Seen → Type 0
+SaysOneMeaning s = s.status ≡ status.Yes → OfVerified s (λ t. (p q : Parts) → Means t p → Means t q → p ≡ q)
+
+-- the five texts have this verdict, which was written
+abbrev pub Judged : Seen → Verdict → Type 0
+Judged s v = OfVerified s (λ t. IsVerified t (Ok v)) × Wrote s (verdict_lines v) []
+
+-- the check of the two texts ends so, which was written
+abbrev pub CheckedAs : Seen → CheckEnd → Type 0
+CheckedAs s end = OfChecked s (outcome.Checked end) × Wrote s (check_line end) []
+
+-- a text is too long, or it is the first of five or of two that has a fault, this one
+abbrev pub Faulty : Seen → Letter → TextFault → Type 0
+Faulty s letter why =
+    ((c : Command) × (command_of s.words ≡ Some c) × RefusesRead c (names_of s.words) s.before s.after (outcome.Text letter why))
+    ⊎ (OfVerified s (λ t. (x : TextWhy) × (why ≡ OfDevice x) × FirstFault t (refusal.Text letter x)) ⊎ OfChecked s (outcome.Text letter why))
 
 -- why a status comes, and what was written with it
-abbrev pub Explains : List Bytes → Reads → Reads → Sunk → Sunk → Sunk → Sunk → Status → Type 0
-Explains ws before after out out' err err' status.Yes = Judged ws before after out out' err err' Yes
-Explains ws before after out out' err err' status.Done = CheckedAs ws before after out out' err err' Verified
-Explains ws before after out out' err err' status.No =
-    ((number : ℕ) × (why : Step) × CheckedAs ws before after out out' err err' (Rejected number why))
-    ⊎ CheckedAs ws before after out out' err err' NoEmptyClause
-Explains ws before after out out' err err' status.Undecided =
-    (hint : HintNo) × (choices : Choices) × Judged ws before after out out' err err' (Undecided hint choices)
-Explains ws before after out out' err err' status.TooWide =
-    (hint : HintNo) × (bits : ℕ) × Judged ws before after out out' err err' (TooWide hint bits)
-Explains ws before after out out' err err' status.Usage =
-    (command_of ws ≡ None) × (after ≡ before) × Whole out out' [] × Whole err err' usage_line
-Explains ws before after out out' err err' status.NotYet =
-    ((IsOther (command_of ws) × (after ≡ before)) ⊎ (IsVerify (command_of ws) × ((whole : ReadWhole (names_of ws) before after) × InNoForm (texts_of whole.entries))))
-    × Whole out out' [] × Whole err err' not_yet_line
-Explains ws before after out out' err err' status.ReadFault =
-    (which : ℕ) × IsBuilt (command_of ws) × ReadUpTo (names_of ws) which Failed before after × Rose before.faults after.faults
-    × Whole out out' [] × Whole err err' (cannot_read_line (slice_index_or (names_of ws) which []))
-Explains ws before after out out' err err' status.Text =
-    ((which : ℕ) × IsBuilt (command_of ws) × ReadUpTo (names_of ws) which TooLong before after
-    × Whole out out' [] × Whole err err' (too_long_line (letter_at (letters_of (command_of ws)) which)))
-    ⊎ (Unreadable ws before after out out' err err' ⊎ FaultsText ws before after out out' err err')
-Explains ws before after out out' err err' status.WriteFault = Rose out.faults out'.faults ⊎ Rose err.faults err'.faults
-Explains ws before after out out' err err' status.Memory = Unit {0}
+abbrev pub Explains : Seen → Status → Type 0
+Explains s status.Yes = Judged s Yes
+Explains s status.Done = CheckedAs s Verified
+Explains s status.No = ((number : ℕ) × (why : Step) × CheckedAs s (Rejected number why)) ⊎ CheckedAs s NoEmptyClause
+Explains s status.Undecided = (hint : HintNo) × (choices : Choices) × Judged s (Undecided hint choices)
+Explains s status.TooWide = (hint : HintNo) × (bits : ℕ) × Judged s (TooWide hint bits)
+Explains s status.Usage = (command_of s.words ≡ None) × (s.after ≡ s.before) × Wrote s [] usage_line
+Explains s status.NotYet =
+    ((IsOther (command_of s.words) × (s.after ≡ s.before)) ⊎ OfVerified s (λ t. FirstFault t refusal.NotYet)) × Wrote s [] not_yet_line
+Explains s status.ReadFault =
+    (which : ℕ) × (IsVerify (command_of s.words) ⊎ IsCheck (command_of s.words)) × ReadUpTo (names_of s.words) which Failed s.before s.after
+    × Rose s.before.faults s.after.faults × Wrote s [] (cannot_read_line (slice_index_or (names_of s.words) which []))
+Explains s status.Text = (letter : Letter) × (why : TextFault) × Faulty s letter why × Wrote s [] (text_line letter why)
+Explains s status.WriteFault = Rose s.out_before.faults s.out_after.faults ⊎ Rose s.err_before.faults s.err_after.faults
+Explains s status.Memory = Unit {0}
 
 -- the names that were asked are a prefix of the command's texts
-abbrev pub AsksPrefix : List Bytes → Reads → Reads → Type 0
-AsksPrefix ws before after = (count : ℕ) × (after.names ≡ before.names ++ take count (names_of ws))
+abbrev pub AsksPrefix : Seen → Type 0
+AsksPrefix s = (count : ℕ) × (s.after.names ≡ s.before.names ++ take count (names_of s.words))
 
--- the first of five texts, that of the circuit, has this first fault
-abbrev pub FaultsCircuit : List Bytes → BtorFault → Type 0
-FaultsCircuit (c ∷ s ∷ d ∷ e ∷ h ∷ []) f = FaultsAt c f
-FaultsCircuit ts f = ⊥
+-- where the words are no command, the status says so, or a put failed or memory was wanting
+abbrev pub SaysUsage : Seen → Type 0
+SaysUsage s = command_of s.words ≡ None → (s.status ≡ status.Usage) ⊎ ((s.status ≡ status.WriteFault) ⊎ (s.status ≡ status.Memory))
 
--- where five texts were read and the circuit's has a first fault, that fault is written to `err`, and nothing to `out`, unless a put fails or memory runs out
-abbrev pub TellsCircuit : List Bytes → Reads → Reads → Sunk → Sunk → Sunk → Sunk → Status → Type 0
-TellsCircuit ws before after out out' err err' result =
-    (whole : ReadWhole (names_of ws) before after) (first : BtorFault) → IsVerify (command_of ws) → FaultsCircuit (texts_of whole.entries) first →
-    ((result ≡ status.Text) × Whole out out' [] × Whole err err' (text_line C (Circuit first))) ⊎ ((result ≡ status.WriteFault) ⊎ (result ≡ status.Memory))
+-- the words are a verify command, no count of faults rose, and no read took more than a text may have
+pub record IsUnhindered (s : Seen) : Type 0 where
+  pub verify : IsVerify (command_of s.words)
+  pub read : Rose s.before.faults s.after.faults → ⊥
+  pub out_put : Rose s.out_before.faults s.out_after.faults → ⊥
+  pub err_put : Rose s.err_before.faults s.err_after.faults → ⊥
+  pub short : s.after.taken ≡ limit + 1 → ⊥
+
+-- the five texts, where the shelf gave them, are as this says
+abbrev pub WhereGiven : Seen → (FiveTexts → Type 0) → Type 0
+WhereGiven s said = (w : ReadWhole (names_of s.words) s.before s.after) → OfFive said (texts_of w.entries)
+
+abbrev pub IsVerdict : Status → Type 0
+IsVerdict status.Yes = Unit {0}
+IsVerdict status.Undecided = Unit {0}
+IsVerdict status.TooWide = Unit {0}
+IsVerdict _ = ⊥
+
+-- five texts that mean something get a verdict, unless memory runs out,
+abbrev pub IsComplete : Seen → Type 0
+IsComplete s = IsUnhindered s → WhereGiven s (λ t. (p : Parts) × Means t p) → IsVerdict s.status ⊎ (s.status ≡ status.Memory)
+
+-- and a yes where the script that they mean is closed
+abbrev pub IsCompleteYes : Seen → Type 0
+IsCompleteYes s = IsUnhindered s → WhereGiven s (λ t. (p : Parts) × Means t p × AllHold p) → (s.status ≡ status.Yes) ⊎ (s.status ≡ status.Memory)

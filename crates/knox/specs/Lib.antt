@@ -1,10 +1,8 @@
 pub mod Commands
-pub mod Reading
-pub mod Verdicts
-pub mod Checking
-pub mod CheckLines
 pub mod Lines
 pub mod Outcomes
+pub mod Reading
+pub mod Checking
+pub mod Writing
 pub mod Runs
 pub mod Consequences
-pub mod TextLines

@@ -1,8 +1,30 @@
--- The lines that a run writes where it gives no verdict.
-use Rattle.std.specs.Prelude.{ℕ, [], ◌++◌, codes, take, drop, Option, Some}
+-- What a run prints: the lines of a verdict and of a check on `out`, those of anything else on `err`.
+use Rattle.std.specs.Prelude.{ℕ, List, [], ◌++◌, codes}
+use Rattle.std.specs.List.{flat_map}
+use Rattle.std.specs.Fmt.{decimal}
+use Rattle.knox_text.specs.declared.place.Place.{Place}
+use Rattle.knox_words.specs.Bits.{Bits}
 use Rattle.knox_edge.specs.Texts.{Bytes}
-use Rattle.knox.specs.declared.command.Command.{Command}
-use Rattle.knox.specs.declared.command.Command.TheVariants.{Verify, Check}
+use Rattle.knox_circuit.specs.Why.{Why}
+use Rattle.knox_circuit.specs.Why.TheVariants as circuit
+use Rattle.expr_read.specs.declared.faults.LangWhy.{LangWhy}
+use Rattle.expr_read.specs.declared.faults.LangWhy.TheVariants as lang
+use Rattle.script_read.specs.declared.fault.ScriptWhy.{ScriptWhy}
+use Rattle.script_read.specs.declared.fault.ScriptWhy.TheVariants as script
+use Rattle.lrat_check.specs.declared.step.Step.{Step}
+use Rattle.lrat_check.specs.declared.step.Step.TheVariants as step
+use Rattle.proof_text.specs.declared.fault.ProofFault.{ProofFault}
+use Rattle.proof_text.specs.declared.fault.ProofFault.TheVariants as proof
+use Rattle.knox_verify.specs.declared.verdict.Letter.{Letter}
+use Rattle.knox_verify.specs.declared.verdict.Letter.TheVariants.{C, S, D, E, H, T, F, P}
+use Rattle.knox_verify.specs.declared.verdict.TextWhy.{TextWhy}
+use Rattle.knox_verify.specs.declared.verdict.TextWhy.TheVariants.{TooLong, Circuit, Lang, Script}
+use Rattle.knox_verify.specs.declared.verdict.Verdict.{Verdict}
+use Rattle.knox_verify.specs.declared.verdict.Verdict.TheVariants.{Yes, Undecided, TooWide}
+use Rattle.knox.specs.declared.outcome.TextFault.{TextFault}
+use Rattle.knox.specs.declared.outcome.TextFault.TheVariants.{OfDevice, OfProof}
+use Rattle.knox.specs.declared.checking.CheckEnd.{CheckEnd}
+use Rattle.knox.specs.declared.checking.CheckEnd.TheVariants.{Verified, Rejected, NoEmptyClause}
 
 abbrev pub usage_line : Bytes
 usage_line = codes "usage: knox verify C S D E H [budget N] [paths N] | replay C S D E T | prove F [budget N] | sat F [budget N] | check F P | selftest N\n"
@@ -13,15 +35,112 @@ not_yet_line = codes "not yet\n"
 abbrev pub cannot_read_line : Bytes → Bytes
 cannot_read_line name = codes "cannot read " ++ name ++ codes "\n"
 
--- the letters of a command's texts, in their order
-abbrev pub letters_of : Option Command → Bytes
-letters_of (Some (Verify budget paths)) = codes "CSDEH"
-letters_of (Some Check) = codes "FP"
-letters_of _ = []
+-- ---- the fault of a text
 
--- the letter at a place
-abbrev pub letter_at : Bytes → ℕ → Bytes
-letter_at letters which = take 1 (drop which letters)
+abbrev pub letter_name : Letter → Bytes
+letter_name C = codes "C"
+letter_name S = codes "S"
+letter_name D = codes "D"
+letter_name E = codes "E"
+letter_name H = codes "H"
+letter_name T = codes "T"
+letter_name F = codes "F"
+letter_name P = codes "P"
 
-abbrev pub too_long_line : Bytes → Bytes
-too_long_line letter = codes "text " ++ letter ++ codes " TooLong\n"
+-- the rule that a circuit's text breaks
+abbrev pub rule_name : Why → Bytes
+rule_name circuit.TooManyLines = codes "TooManyLines"
+rule_name circuit.Number = codes "Number"
+rule_name circuit.Order = codes "Order"
+rule_name circuit.Constraint = codes "Constraint"
+rule_name circuit.Unsupported = codes "Unsupported"
+rule_name circuit.Keyword = codes "Keyword"
+rule_name circuit.Operand = codes "Operand"
+rule_name circuit.Sort = codes "Sort"
+rule_name circuit.Digits = codes "Digits"
+rule_name circuit.Width = codes "Width"
+rule_name circuit.Init = codes "Init"
+rule_name circuit.Next = codes "Next"
+rule_name circuit.TooManyWords = codes "TooManyWords"
+rule_name circuit.Memory = codes "Memory"
+
+-- what is wrong with a text of the languages, and with one of hints
+abbrev pub lang_name : LangWhy → Bytes
+lang_name lang.Form = codes "Form"
+lang_name lang.UnknownName = codes "UnknownName"
+lang_name lang.Twice = codes "Twice"
+lang_name lang.Width = codes "Width"
+lang_name lang.Arity = codes "Arity"
+lang_name lang.Bound = codes "Bound"
+lang_name lang.Missing = codes "Missing"
+lang_name lang.Memory = codes "Memory"
+
+abbrev pub script_name : ScriptWhy → Bytes
+script_name script.Form = codes "Form"
+script_name script.UnknownName = codes "UnknownName"
+script_name script.Twice = codes "Twice"
+script_name script.Width = codes "Width"
+script_name script.Arity = codes "Arity"
+script_name script.Bound = codes "Bound"
+script_name script.Missing = codes "Missing"
+script_name script.Memory = codes "Memory"
+
+-- a text's fault without a place, on a line of a circuit, and at a place
+abbrev pub whole_text_line : Letter → Bytes → Bytes
+whole_text_line letter word = codes "text " ++ (letter_name letter ++ (codes " " ++ (word ++ codes "\n")))
+
+abbrev pub at_line : Letter → ℕ → Bytes → Bytes
+at_line letter line word = codes "text " ++ (letter_name letter ++ (codes " line " ++ (decimal line ++ (codes " " ++ (word ++ codes "\n")))))
+
+abbrev pub at_place : Letter → Place → Bytes → Bytes
+at_place letter at word =
+    codes "text " ++ (letter_name letter ++ (codes " " ++ (decimal at.line ++ (codes ":" ++ (decimal at.column ++ (codes " " ++ (word ++ codes "\n")))))))
+
+abbrev pub text_line : Letter → TextFault → Bytes
+text_line letter (OfDevice TooLong) = whole_text_line letter (codes "TooLong")
+text_line letter (OfDevice (Circuit f)) = at_line letter f.line (rule_name f.why)
+text_line letter (OfDevice (Lang f)) = at_place letter f.place (lang_name f.why)
+text_line letter (OfDevice (Script f)) = at_place letter f.place (script_name f.why)
+text_line letter (OfProof (proof.Header at)) = at_place letter at (codes "Header")
+text_line letter (OfProof (proof.Count at)) = at_place letter at (codes "Count")
+text_line letter (OfProof (proof.Variable at)) = at_place letter at (codes "Variable")
+text_line letter (OfProof (proof.Shape at)) = at_place letter at (codes "Shape")
+text_line letter (OfProof proof.Memory) = whole_text_line letter (codes "Memory")
+
+-- ---- a check
+
+-- a refused line, a word and an id
+abbrev pub rejected_with : ℕ → Bytes → ℕ → Bytes
+rejected_with number word id = codes "rejected line " ++ (decimal number ++ (word ++ (decimal id ++ codes "\n")))
+
+abbrev pub rejected_line : ℕ → Step → Bytes
+rejected_line number (step.IdNotNew id) = rejected_with number (codes " IdNotNew ") id
+rejected_line number (step.Rat id) = rejected_with number (codes " Rat ") id
+rejected_line number (step.NoSuchClause id) = rejected_with number (codes " NoSuchClause ") id
+rejected_line number (step.NotUnit id) = rejected_with number (codes " NotUnit ") id
+rejected_line number step.NoConflict = codes "rejected line " ++ (decimal number ++ codes " NoConflict\n")
+rejected_line number step.Memory = codes "rejected line " ++ (decimal number ++ codes " Memory\n")
+
+-- how a check ended
+abbrev pub check_line : CheckEnd → Bytes
+check_line Verified = codes "verified\n"
+check_line (Rejected number why) = rejected_line number why
+check_line NoEmptyClause = codes "rejected no empty clause\n"
+
+-- ---- a verdict
+
+-- a space and a word in decimal
+abbrev pub spaced : Bits → Bytes
+spaced w = codes " " ++ decimal w.value
+
+-- a hint that choices falsify, and the words that the run takes
+abbrev pub undecided_lines : ℕ → List Bits → Bytes
+undecided_lines hint ws = (codes "undecided " ++ (decimal hint ++ codes "\nchoices")) ++ flat_map spaced ws ++ codes "\n"
+
+abbrev pub too_wide_line : ℕ → ℕ → Bytes
+too_wide_line hint bits = codes "too-wide " ++ (decimal hint ++ (codes " " ++ (decimal bits ++ codes "\n")))
+
+abbrev pub verdict_lines : Verdict → Bytes
+verdict_lines Yes = codes "yes\n"
+verdict_lines (Undecided hint choices) = undecided_lines hint.0 choices.words
+verdict_lines (TooWide hint bits) = too_wide_line hint.0 bits

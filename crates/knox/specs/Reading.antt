@@ -1,8 +1,17 @@
 -- What a shelf has kept after a command's texts were read one after another.
-use Rattle.std.specs.Prelude.{◌≡◌, ℕ, ◌<◌, ◌≤◌, List, [], ◌∷◌, ◌++◌, length, map, take, slice_index_or, Err}
+use Rattle.std.specs.Prelude.{◌≡◌, ℕ, ◌<◌, ◌≤◌, List, [], ◌∷◌, ◌++◌, length, map, take, slice_index_or, Err, ◌==◌, if◌then◌else◌}
 use Rattle.knox_edge.specs.declared.shelf.ShelfEnd.{ShelfEnd}
+use Rattle.knox_edge.specs.declared.shelf.ShelfEnd.TheVariants as end
 use Rattle.knox_edge.specs.Texts.{Bytes, Named, Reads, limit}
 use Rattle.knox_edge.specs.Shelf.{Asks, CountsFault, TookTooMuch}
+use Rattle.knox_verify.specs.declared.verdict.Letter.{Letter}
+use Rattle.knox_verify.specs.declared.verdict.Letter.TheVariants.{C, S, D, E, H, F, P}
+use Rattle.knox_verify.specs.declared.verdict.TextWhy.TheVariants.{TooLong}
+use Rattle.knox.specs.declared.command.Command.{Command}
+use Rattle.knox.specs.declared.command.Command.TheVariants.{Check}
+use Rattle.knox.specs.declared.outcome.Outcome.{Outcome}
+use Rattle.knox.specs.declared.outcome.Outcome.TheVariants.{Unread, Text, Memory}
+use Rattle.knox.specs.declared.outcome.TextFault.TheVariants.{OfDevice}
 
 -- no text is over the limit
 abbrev pub Within : List Bytes → Type 0
@@ -35,3 +44,20 @@ pub record ReadUpTo (names : List Bytes) (which : ℕ) (end : ShelfEnd) (before 
   pub between : Reads
   pub whole : ReadWhole (take which names) before between
   pub refused : Refuses (slice_index_or names which []) end between after
+
+-- the letter of a command's text, by its place: C S D E H, or F P
+abbrev pub letter_of : Command → ℕ → Letter
+letter_of Check which = if which == 0 then F else P
+letter_of _ which = if which == 0 then C else (if which == 1 then S else (if which == 2 then D else (if which == 3 then E else H)))
+
+-- the outcome of reads of which one was refused
+abbrev pub RefusesRead : Command → List Bytes → Reads → Reads → Outcome → Type 0
+RefusesRead command names before after (Unread which) = ReadUpTo names which end.Failed before after
+RefusesRead command names before after (Text letter (OfDevice TooLong)) =
+    (which : ℕ) × (letter ≡ letter_of command which) × ReadUpTo names which end.TooLong before after
+RefusesRead command names before after Memory = (which : ℕ) × ReadUpTo names which end.Memory before after
+RefusesRead command names before after _ = ⊥
+
+-- the names were asked in order, each read gave a text, and this is said of the texts
+abbrev pub OfTexts : (List Bytes → Type 0) → List Bytes → Reads → Reads → Type 0
+OfTexts said names before after = (whole : ReadWhole names before after) × said (texts_of whole.entries)

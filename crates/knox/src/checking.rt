@@ -1,12 +1,15 @@
 //! Checks the proof of a formula: each line is admitted as soon as it is read, so that no more than
 //! one of them is held.
-ghost use Rattle.std.specs.Prelude.{◌≡◌, ◌≤◌, ◌⊎◌, ℕ, length, List, MatchResult, Ok, Err, OnOk, OnErr, IfErr};
+ghost use Rattle.std.specs.Prelude.{◌≡◌, ◌≤◌, ◌⊎◌, length, List, MatchResult, Ok, Err, OnOk, IfErr};
 ghost use Rattle.lrat_check.specs.declared.step.Step.TheVariants.{Memory};
 ghost use Rattle.proof_text.specs.declared.fault.ProofFault.TheVariants as fault;
 ghost use Rattle.proof_text.specs.declared.proof_line.ProofLine.{ProofLine};
 ghost use Rattle.proof_text.specs.Unread.{lines_left};
-ghost use Rattle.knox.specs.Checking.{line_number, with_line, EndsAs, Shows, Checks, HasFault, Unchecks, cause_of};
+ghost use Rattle.knox_edge.specs.Texts.{Bytes};
+ghost use Rattle.knox.specs.Checking.{line_number, with_line, EndsAs, Shows, Checks, HasFault, ChecksTo, cause_of};
 
+use crate::outcome::{Outcome, TextFault};
+use knox_verify::Letter;
 use lrat_check::{Derivation, Step};
 use proof_text::{LratReader, ProofFault, ProofLine, read_cnf};
 use std::alloc::Global;
@@ -20,15 +23,6 @@ pub enum CheckEnd {
     Rejected(u32, Step),
     /// Every line is accepted, and there is no empty clause.
     NoEmptyClause,
-}
-
-/// Why two texts were not checked.
-#[derive(Clone, Copy, Debug, PartialEq, Eq)]
-pub enum Unchecked {
-    /// The text with this number has this fault: 0 is the formula's, 1 the proof's.
-    Faulty(usize, ProofFault),
-    /// Memory ran out.
-    Memory,
 }
 
 /// The number of the text's line.
@@ -95,41 +89,39 @@ fn check_lines(
     }
 }
 
-/// Texts with a fault, or want of memory.
-fn cause(which: usize, fault: ProofFault) -> Unchecked
-    ensures { result ≡ cause_of which fault }
+/// A text with a fault, or want of memory.
+fn cause(letter: Letter, fault: ProofFault) -> Outcome
+    ensures { result ≡ cause_of letter fault }
 {
     match fault {
-        ProofFault::Memory => Unchecked::Memory,
-        _ => Unchecked::Faulty(which, fault),
+        ProofFault::Memory => Outcome::Memory,
+        _ => Outcome::Text(letter, TextFault::OfProof(fault)),
     }
 }
 
 /// The check of two texts has one end, or one fault, and not both.
 fn checks_have_one_end()
-    ensures end { (f p : List ℕ) (a b : CheckEnd) → Checks a f p → Checks b f p → a ≡ b }
-    ensures no_fault { (f p : List ℕ) (a : CheckEnd) (which : ℕ) (why : ProofFault) → Checks a f p → HasFault which why f p → ⊥ }
-    ensures fault { (f p : List ℕ) (which other : ℕ) (why how : ProofFault) → HasFault which why f p → HasFault other how f p → (which ≡ other) × (why ≡ how) }
+    ensures end { (f p : Bytes) (a b : CheckEnd) → Checks a f p → Checks b f p → a ≡ b }
+    ensures no_fault { (f p : Bytes) (a : CheckEnd) (letter : Letter) (why : ProofFault) → Checks a f p → HasFault letter why f p → ⊥ }
+    ensures fault { (f p : Bytes) (letter other : Letter) (why how : ProofFault) → HasFault letter why f p → HasFault other how f p → (letter ≡ other) × (why ≡ how) }
 {}
 
 /// Checks a proof of a formula, by their bytes.
-pub fn check_texts(alloc: Global, formula: &[u8], proof: &[u8]) -> Result<CheckEnd, Unchecked>
+pub fn check_texts(alloc: Global, formula: &[u8], proof: &[u8]) -> Outcome
     requires formula { length formula.now ≤ 67108864 }
     requires proof { length proof.now ≤ 67108864 }
-    ensures { MatchResult result
-        (λ end. Checks end formula.now proof.now)
-        (λ why. Unchecks why formula.now proof.now) }
+    ensures { ChecksTo result formula.now proof.now }
 {
     checks_have_one_end();
     let cnf = match read_cnf(alloc, formula) {
         Ok(cnf) => cnf,
-        Err(fault) => return Err(cause(0, fault)),
+        Err(fault) => return cause(Letter::F, fault),
     };
     let Ok(derivation) = Derivation::new(alloc, cnf) else {
-        return Err(Unchecked::Memory);
+        return Outcome::Memory;
     };
     match check_lines(alloc, derivation, LratReader::new(proof)) {
-        Ok(end) => Ok(end),
-        Err(fault) => Err(cause(1, fault)),
+        Ok(end) => Outcome::Checked(end),
+        Err(fault) => cause(Letter::P, fault),
     }
 }

@@ -1,29 +1,27 @@
 //! The program `knox`: verifies a hardware security module against its specification.
 #![tactic(auto)]
 
-mod check_saying;
+mod answer;
 #[cfg(test)]
 mod check_tests;
 mod checking;
 #[cfg(test)]
 mod circuit_tests;
 mod command;
-mod delivery;
 #[cfg(test)]
 mod form_tests;
 #[cfg(test)]
 mod host_tests;
 mod judging;
+mod lines;
 #[cfg(test)]
 mod memory_tests;
 mod outcome;
 mod reading;
 mod run;
-mod saying;
 mod status;
 #[cfg(test)]
 mod tests;
-mod text_saying;
 #[cfg(test)]
 mod trial;
 #[cfg(test)]

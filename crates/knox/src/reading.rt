@@ -1,31 +1,53 @@
 //! Reads a command's texts in the order of its words.
 ghost use Rattle.std.specs.Prelude.{◌≡◌, ◌<◌, ◌≤◌, ◌+◌, ◌^◌, length, MatchResult};
-ghost use Rattle.knox_edge.specs.Texts.{Reads, bytes_of};
-ghost use Rattle.knox.specs.Reading.{ReadWhole, ReadUpTo};
+ghost use Rattle.knox_edge.specs.Texts.{bytes_of};
+ghost use Rattle.knox.specs.Reading.{ReadWhole, RefusesRead, letter_of};
 
+use crate::command::Command;
+use crate::outcome::{Outcome, TextFault};
 use knox_edge::{Shelf, ShelfEnd};
+use knox_verify::{Letter, TextWhy};
 
-/// The read of this text, counted from 0, was refused so.
-#[derive(Clone, Copy, Debug, PartialEq, Eq)]
-pub struct Refused {
-    pub which: usize,
-    pub end: ShelfEnd,
+/// The letter of a command's text, by its place.
+fn letter_of(command: Command, which: usize) -> Letter
+    ensures { result ≡ letter_of command which }
+{
+    match command {
+        Command::Check => match which {
+            0 => Letter::F,
+            _ => Letter::P,
+        },
+        _ => match which {
+            0 => Letter::C,
+            1 => Letter::S,
+            2 => Letter::D,
+            3 => Letter::E,
+            _ => Letter::H,
+        },
+    }
 }
 
-/// Reads the texts of some names, and answers the place of the first.
-pub fn read_texts<F: Shelf>(names: &[Vec<u8>], shelf: &mut F) -> Result<usize, Refused>
+/// Reads the texts of a command, by their names, and answers the place of the first.
+pub fn read_texts<F: Shelf>(
+    command: Command,
+    names: &[Vec<u8>],
+    shelf: &mut F,
+) -> Result<usize, Outcome>
     requires { 0 < length names.now }
-    ensures { let before : Reads = record { names = F.names shelf.old; given = F.given shelf.old; taken = F.taken shelf.old; faults = F.faults shelf.old } in
-        let after : Reads = record { names = F.names shelf.new; given = F.given shelf.new; taken = F.taken shelf.new; faults = F.faults shelf.new } in
-        MatchResult result
-        (λ first. ReadWhole (bytes_of names.now) before after × (first ≡ length before.given) × (first + length names.now ≤ 2 ^ 64))
-        (λ r. ReadUpTo (bytes_of names.now) r.which r.end before after) }
+    ensures { MatchResult result
+        (λ first. ReadWhole (bytes_of names.now) (F.history shelf.old) (F.history shelf.new) × (first ≡ length (F.history shelf.old).given) × (first + length names.now ≤ 2 ^ 64))
+        (RefusesRead command (bytes_of names.now) (F.history shelf.old) (F.history shelf.new)) }
 {
     let mut last = 0;
     for (which, name) in names.iter().enumerate() {
         match shelf.read(name.as_slice()) {
             Ok(place) => last = place,
-            Err(end) => return Err(Refused { which, end }),
+            Err(ShelfEnd::Failed) => return Err(Outcome::Unread(which)),
+            Err(ShelfEnd::TooLong) => {
+                let letter = letter_of(command, which);
+                return Err(Outcome::Text(letter, TextFault::OfDevice(TextWhy::TooLong)));
+            }
+            Err(ShelfEnd::Memory) => return Err(Outcome::Memory),
         }
     }
     Ok(last - (names.len() - 1))

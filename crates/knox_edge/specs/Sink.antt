@@ -12,6 +12,14 @@ pub record Failing : Type 0 where
   pub numbers : List ℕ
   pub counted : ℕ
 
+-- what a sink tells: the bytes that were written, where they are told; how many puts have failed; and, where it is told, which puts fail,
+-- and how many bytes are kept of a piece whose put fails
+pub record Sunk : Type 0 where
+  pub written : Option Bytes
+  pub faults : ℕ
+  pub fails : Option Failing
+  pub keeps : Option ℕ
+
 -- a put's answer
 abbrev pub Put : Type 0
 Put = Result (Unit {0}) SinkEnd

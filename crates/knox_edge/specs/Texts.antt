@@ -1,5 +1,5 @@
 -- Bytes, texts with their names, and what a shelf keeps of its reads.
-use Rattle.std.specs.Prelude.{ℕ, List, map}
+use Rattle.std.specs.Prelude.{ℕ, List, [], map}
 use Rattle.std.specs.declared.vec.Vec.{Vec}
 use Rattle.std.specs.declared.alloc.Global.{Global}
 
@@ -21,6 +21,10 @@ pub record Reads : Type 0 where
   pub given : List Named
   pub taken : ℕ
   pub faults : ℕ
+
+-- no reads
+abbrev pub unread : Reads
+unread = record { names = []; given = []; taken = 0; faults = 0 }
 
 -- the bytes of some vectors
 abbrev pub bytes_of : List (Vec ℕ Global) → List Bytes

@@ -1,6 +1,6 @@
 //! A shelf over the files of the system.
 ghost use Rattle.std.specs.Prelude.{◌≡◌, ◌+◌, ◌≤◌, ◌++◌, [], None, Ok, IfSome, OnOk, IfErr, MatchResult, vec_len};
-ghost use Rattle.knox_edge.specs.Texts.{limit};
+ghost use Rattle.knox_edge.specs.Texts.{limit, unread};
 
 use crate::history::History;
 use crate::shelf::{Shelf, ShelfEnd};
@@ -27,9 +27,7 @@ pub struct FileShelf<'a, R: Files> {
 impl<'a, R: Files> FileShelf<'a, R> {
     /// A shelf of the files that this runtime reaches, of which nothing was asked.
     pub fn new(rt: &'a R, alloc: Global) -> FileShelf<'a, R>
-        ensures names { ⟦<FileShelf<'a, R> as Shelf>⟧.names result ≡ [] }
-        ensures given { ⟦<FileShelf<'a, R> as Shelf>⟧.given result ≡ [] }
-        ensures faults { ⟦<FileShelf<'a, R> as Shelf>⟧.faults result ≡ 0 }
+        ensures { ⟦<FileShelf<'a, R> as Shelf>⟧.history result ≡ unread }
     {
         FileShelf {
             rt,
@@ -85,13 +83,7 @@ fn read_file<R: Files>(rt: &R, name: &[u8], bytes: &mut Vec<u8>) -> Result<(), S
 }
 
 impl<'a, R: Files> Shelf for FileShelf<'a, R> {
-    ghost names = { λ s. s.history.names };
-
-    ghost given = { λ s. s.history.given };
-
-    ghost taken = { λ s. s.history.taken };
-
-    ghost faults = { λ s. s.history.faults };
+    ghost history = { λ s. s.history };
 
     ghost holds = { λ _. None };
 

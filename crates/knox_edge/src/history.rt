@@ -1,7 +1,7 @@
 //! What a shelf keeps of its reads.
 ghost use Rattle.std.specs.Prelude.{◌≡◌, ◌+◌, ◌<◌, [], ◌∷◌, ◌++◌, length, Some, slice_get, option_map, OnOk, OnErr, IfOk, IfErr};
 ghost use Rattle.knox_edge.specs.Counts.{next_count};
-ghost use Rattle.knox_edge.specs.Texts.{Reads};
+ghost use Rattle.knox_edge.specs.Texts.{unread};
 
 use crate::shelf::ShelfEnd;
 use std::alloc::Global;
@@ -28,7 +28,7 @@ impl Model for History {
 impl History {
     /// No reads.
     pub fn new(alloc: Global) -> History
-        ensures { result ≡ record { names = []; given = []; taken = 0; faults = 0 } }
+        ensures { result ≡ unread }
     {
         History {
             alloc,

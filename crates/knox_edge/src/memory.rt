@@ -1,6 +1,6 @@
 //! A shelf and a sink in memory, whose reads and puts fail where they are told to.
 ghost use Rattle.std.specs.Prelude.{◌≡◌, [], Some, option_map, length, take};
-ghost use Rattle.knox_edge.specs.Texts.{bytes_of, named_of};
+ghost use Rattle.knox_edge.specs.Texts.{unread, bytes_of, named_of};
 ghost use Rattle.knox_edge.specs.Shelf.{Holding, entry_of, is_in};
 ghost use Rattle.knox_edge.specs.Sink.{Failing};
 
@@ -24,9 +24,7 @@ pub struct MemShelf {
 impl MemShelf {
     /// A shelf of these names and texts, of which nothing was asked.
     pub fn new(alloc: Global, held: Vec<(Vec<u8>, Vec<u8>)>, fail: Vec<u64>) -> MemShelf
-        ensures names { ⟦<MemShelf as Shelf>⟧.names result ≡ [] }
-        ensures given { ⟦<MemShelf as Shelf>⟧.given result ≡ [] }
-        ensures faults { ⟦<MemShelf as Shelf>⟧.faults result ≡ 0 }
+        ensures history { ⟦<MemShelf as Shelf>⟧.history result ≡ unread }
         ensures holds { ⟦<MemShelf as Shelf>⟧.holds result ≡ Some (record { entries = named_of held.items; failing = fail.items }) }
     {
         MemShelf {
@@ -58,13 +56,7 @@ fn is_one_of(numbers: &[u64], number: u64) -> bool
 }
 
 impl Shelf for MemShelf {
-    ghost names = { λ s. s.history.names };
-
-    ghost given = { λ s. s.history.given };
-
-    ghost taken = { λ s. s.history.taken };
-
-    ghost faults = { λ s. s.history.faults };
+    ghost history = { λ s. s.history };
 
     ghost holds = { λ s. Some (record { entries = named_of s.held.items; failing = s.fail.items }) };
 
@@ -109,10 +101,7 @@ pub struct MemSink {
 impl MemSink {
     /// A sink that holds nothing and has counted no put.
     pub fn new(alloc: Global, fail: Vec<u64>, keep: usize) -> MemSink
-        ensures written { ⟦<MemSink as Sink>⟧.written result ≡ Some [] }
-        ensures faults { ⟦<MemSink as Sink>⟧.faults result ≡ 0 }
-        ensures fails { ⟦<MemSink as Sink>⟧.fails result ≡ Some (record { numbers = fail.items; counted = 0 }) }
-        ensures keeps { ⟦<MemSink as Sink>⟧.keeps result ≡ Some keep }
+        ensures { ⟦<MemSink as Sink>⟧.told result ≡ record { written = Some []; faults = 0; fails = Some (record { numbers = fail.items; counted = 0 }); keeps = Some keep } }
     {
         MemSink {
             fail,
@@ -125,7 +114,7 @@ impl MemSink {
 
     /// The bytes that were written.
     pub fn written(&self) -> &[u8]
-        ensures { ⟦<MemSink as Sink>⟧.written self.now ≡ Some result.now }
+        ensures { (⟦<MemSink as Sink>⟧.told self.now).written ≡ Some result.now }
     {
         self.written.as_slice()
     }
@@ -143,13 +132,7 @@ fn first(piece: &[u8], count: usize) -> &[u8]
 }
 
 impl Sink for MemSink {
-    ghost written = { λ s. Some s.written.items };
-
-    ghost faults = { λ s. s.faults };
-
-    ghost fails = { λ s. Some (record { numbers = s.fail.items; counted = s.count }) };
-
-    ghost keeps = { λ s. Some s.keep };
+    ghost told = { λ s. record { written = Some s.written.items; faults = s.faults; fails = Some (record { numbers = s.fail.items; counted = s.count }); keeps = Some s.keep } };
 
     fn put(&mut self, piece: &[u8]) -> Result<(), SinkEnd> {
         if piece.is_empty() {

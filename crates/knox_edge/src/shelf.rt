@@ -1,6 +1,6 @@
 //! Where texts come from, by name.
-ghost use Rattle.std.specs.Prelude.{◌≡◌, ℕ, ◌+◌, ◌<◌, List, length, Option, Some, slice_get, IfSome, option_map};
-ghost use Rattle.knox_edge.specs.Texts.{Bytes, Named};
+ghost use Rattle.std.specs.Prelude.{◌≡◌, ◌+◌, ◌<◌, length, Option, Some, slice_get, IfSome, option_map};
+ghost use Rattle.knox_edge.specs.Texts.{Reads};
 ghost use Rattle.knox_edge.specs.Shelf.{Holding, answer_of, AnswersAs, Gives, Asks, CountsFault, TookTooMuch};
 
 use thiserror::Error;
@@ -21,34 +21,25 @@ pub enum ShelfEnd {
 
 /// Texts by name. A shelf keeps every name that was asked and every text that it gave.
 pub trait Shelf {
-    /// The names that reads have asked, refused ones too.
-    ghost names: { Self → List Bytes };
-
-    /// The names and bytes that successful reads have given.
-    ghost given: { Self → List Named };
-
-    /// How many bytes the last read took.
-    ghost taken: { Self → ℕ };
-
-    /// How many reads have failed.
-    ghost faults: { Self → ℕ };
+    /// What the reads have asked, given and taken, and how many have failed.
+    ghost history: { Self → Reads };
 
     /// What is held, where it is told.
     ghost holds: { Self → Option Holding };
 
     /// Reads the text with this name, and answers its place among those that were given.
     fn read(&mut self, name: &[u8]) -> Result<usize, ShelfEnd>
-        ensures asks { Asks name.now result (names self.old) (names self.new) }
-        ensures gives { Gives name.now result (taken self.new) (given self.old) (given self.new) }
-        ensures faults { CountsFault result (faults self.old) (faults self.new) }
-        ensures too_long { TookTooMuch result (taken self.new) }
+        ensures asks { Asks name.now result (history self.old).names (history self.new).names }
+        ensures gives { Gives name.now result (history self.new).taken (history self.old).given (history self.new).given }
+        ensures faults { CountsFault result (history self.old).faults (history self.new).faults }
+        ensures too_long { TookTooMuch result (history self.new).taken }
         ensures holds { holds self.new ≡ holds self.old }
         ensures told { IfSome (holds self.old) (λ h.
-            let told = answer_of h (length (names self.old) + 1) name.now in
-            AnswersAs told name.now result (given self.old) (given self.new)) };
+            let told = answer_of h (length (history self.old).names + 1) name.now in
+            AnswersAs told name.now result (history self.old).given (history self.new).given) };
 
     /// The bytes of a text that was given, by its place.
     fn text(&self, i: usize) -> &[u8]
-        requires { i < length (given self.now) }
-        ensures { option_map (λ e. e.1) (slice_get (given self.now) i) ≡ Some result.now };
+        requires { i < length (history self.now).given }
+        ensures { option_map (λ e. e.1) (slice_get (history self.now).given i) ≡ Some result.now };
 }

@@ -1,7 +1,6 @@
 //! Where bytes go, piece by piece.
-ghost use Rattle.std.specs.Prelude.{◌≡◌, ℕ, Option, IfSome, [], Ok, IsOk};
-ghost use Rattle.knox_edge.specs.Texts.{Bytes};
-ghost use Rattle.knox_edge.specs.Sink.{Failing, Writes, KeepsFirst, CountsFault, CountedWhereTold};
+ghost use Rattle.std.specs.Prelude.{◌≡◌, IfSome, [], Ok, IsOk};
+ghost use Rattle.knox_edge.specs.Sink.{Sunk, Writes, KeepsFirst, CountsFault, CountedWhereTold};
 
 use thiserror::Error;
 
@@ -18,24 +17,15 @@ pub enum SinkEnd {
 
 /// Takes pieces of bytes.
 pub trait Sink {
-    /// The bytes that were written, where they are told.
-    ghost written: { Self → Option Bytes };
-
-    /// How many puts have failed.
-    ghost faults: { Self → ℕ };
-
-    /// Which puts fail, where it is told.
-    ghost fails: { Self → Option Failing };
-
-    /// How many bytes are kept of a piece whose put fails, where it is told.
-    ghost keeps: { Self → Option ℕ };
+    /// What was written, how many puts have failed, and which ones fail.
+    ghost told: { Self → Sunk };
 
     /// Writes a piece. One without bytes is always put, and is not counted.
     fn put(&mut self, piece: &[u8]) -> Result<(), SinkEnd>
-        ensures writes { Writes piece.now result (written self.old) (written self.new) }
-        ensures kept { IfSome (keeps self.old) (λ kept. KeepsFirst kept piece.now result (written self.old) (written self.new)) }
-        ensures faults { CountsFault result (faults self.old) (faults self.new) }
-        ensures counted { CountedWhereTold piece.now result (fails self.old) (fails self.new) }
-        ensures keeps { keeps self.new ≡ keeps self.old }
+        ensures writes { Writes piece.now result (told self.old).written (told self.new).written }
+        ensures kept { IfSome (told self.old).keeps (λ kept. KeepsFirst kept piece.now result (told self.old).written (told self.new).written) }
+        ensures faults { CountsFault result (told self.old).faults (told self.new).faults }
+        ensures counted { CountedWhereTold piece.now result (told self.old).fails (told self.new).fails }
+        ensures keeps { (told self.new).keeps ≡ (told self.old).keeps }
         ensures empty { piece.now ≡ [] → IsOk result };
 }

@@ -15,8 +15,7 @@ pub struct StreamSink<W: Write> {
 impl<W: Write> StreamSink<W> {
     /// A sink over this writer, with no fault counted.
     pub fn new(writer: W) -> StreamSink<W>
-        ensures written { ⟦<StreamSink<W> as Sink>⟧.written result ≡ W.contents writer }
-        ensures faults { ⟦<StreamSink<W> as Sink>⟧.faults result ≡ 0 }
+        ensures { ⟦<StreamSink<W> as Sink>⟧.told result ≡ record { written = W.contents writer; faults = 0; fails = None; keeps = None } }
     {
         StreamSink { writer, faults: 0 }
     }
@@ -43,13 +42,7 @@ fn write_whole<W: Write>(writer: &mut W, piece: &[u8]) -> Result<(), Stopped>
 }
 
 impl<W: Write> Sink for StreamSink<W> {
-    ghost written = { λ s. W.contents s.writer };
-
-    ghost faults = { λ s. s.faults };
-
-    ghost fails = { λ _. None };
-
-    ghost keeps = { λ _. None };
+    ghost told = { λ s. record { written = W.contents s.writer; faults = s.faults; fails = None; keeps = None } };
 
     fn put(&mut self, piece: &[u8]) -> Result<(), SinkEnd> {
         match write_whole(&mut self.writer, piece) {

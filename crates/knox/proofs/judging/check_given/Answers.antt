@@ -1,7 +1,4 @@
-use Rattle.std.proofs.Common.{sym, subst}
-use Rattle.std.specs.Result.{MatchResult}
-use Rattle.knox.specs.Checking.{ChecksTexts, UnchecksTexts}
-use Rattle.knox.proofs.FiveTexts.{two-drop, two-within}
+use Rattle.knox.proofs.TextsLemmas.{two-drop, two-within}
 use Rattle.knox.proofs.judging.check_given.Goals as goal
 
 pub check_texts-requires : goal.check_texts-requires
@@ -12,6 +9,4 @@ check_texts-requires g c =
 
 pub returns : goal.returns
 returns g c =
-    subst (λ ts. MatchResult c.check_texts.result (λ end. ChecksTexts end ts) (λ why. UnchecksTexts why ts))
-    (sym (two-drop _ c.args.first _ _ c.requires.two c.text-formula.ensures c.text-proof.ensures))
-    c.check_texts.ensures
+    (c.text-formula.result.now, c.text-proof.result.now, two-drop _ c.args.first _ _ c.requires.two c.text-formula.ensures c.text-proof.ensures, c.check_texts.ensures)

@@ -1,23 +1,24 @@
-use Rattle.std.proofs.Common.{sym, subst}
-use Rattle.knox.specs.Verdicts.{JudgesTexts, InNoForm}
-use Rattle.knox.proofs.FiveTexts.{five-drop, five-named}
+use Rattle.knox_verify.specs.Meanings.{five}
+use Rattle.knox.proofs.TextsLemmas.{five-drop}
 use Rattle.knox.proofs.judging.judge.Goals as goal
 
-pub returns-in-Ok-clause-judged : goal.returns-in-Ok-clause-judged
-returns-in-Ok-clause-judged g c =
-    subst (JudgesTexts c.in-Ok.verdict)
-    (sym (five-drop _ c.args.first _ _ _ _ _ c.requires.five c.text-c.ensures c.text-s.ensures c.text-d.ensures c.text-e.ensures c.text-h.ensures))
-    c.in-Ok.ensures.judged
-
-pub returns-in-Err-NotYet-clause-unjudged : goal.returns-in-Err-NotYet-clause-unjudged
-returns-in-Err-NotYet-clause-unjudged g c =
-    subst InNoForm
-    (sym (five-drop _ c.args.first _ _ _ _ _ c.requires.five c.text-c.ensures c.text-s.ensures c.text-d.ensures c.text-e.ensures c.text-h.ensures))
-    (rw c.in-Err-NotYet.field-0-is at c.in-Err-NotYet.ensures.refused)
-
-pub returns-in-Err-Text-clause-unjudged : goal.returns-in-Err-Text-clause-unjudged
-returns-in-Err-Text-clause-unjudged g c =
-    five-named _ c.text-c.result.now c.text-s.result.now c.text-d.result.now c.text-e.result.now c.text-h.result.now c.in-Err-Text.letter c.in-Err-Text.why c.requires.within
-    (five-drop _ c.args.first _ _ _ _ _ c.requires.five c.text-c.ensures c.text-s.ensures c.text-d.ensures c.text-e.ensures c.text-h.ensures)
-    (rw c.in-Err-Text.field-0-is at c.in-Err-Text.ensures.too_long)
-    (rw c.in-Err-Text.field-0-is at c.in-Err-Text.ensures.refused)
+pub returns : goal.returns
+returns g c =
+    let said = c.verify_texts.ensures in (
+      five c.text-c.result.now c.text-s.result.now c.text-d.result.now c.text-e.result.now c.text-h.result.now,
+      five-drop _ c.args.first _ _ _ _ _ c.requires.five c.text-c.ensures c.text-s.ensures c.text-d.ensures c.text-e.ensures c.text-h.ensures,
+      (
+        c.verify_texts.result,
+        c.outcome_of.ensures,
+        record {
+          agree = said.agree;
+          closed = said.closed;
+          yes = said.yes;
+          judged = said.judged;
+          meant = said.meant;
+          one_meaning = said.one_meaning;
+          refused = said.refused;
+          first_fault = said.first_fault;
+        },
+      ),
+    )

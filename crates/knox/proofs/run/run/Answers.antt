@@ -1,26 +1,28 @@
-use Rattle.std.proofs.Common.{ap, List}
-use Rattle.knox_edge.specs.Texts.{Bytes, Reads, bytes_of}
-use Rattle.knox.specs.Runs.{Sunk, Ends}
-use Rattle.knox.proofs.Verified.{Ends-by}
-use Rattle.knox.proofs.Explained.{explained, asks_prefix}
-use Rattle.knox.proofs.FirstFault.{tells_circuit}
+use Rattle.std.proofs.Common.{◌∙◌, ap}
+use Rattle.knox_edge.specs.Texts.{bytes_of}
+use Rattle.knox.specs.declared.status.Status.TheVariants.{Memory}
+use Rattle.knox.specs.Outcomes.{to_err}
+use Rattle.knox.specs.Runs.{Seen, Ends, seen}
+use Rattle.knox.proofs.RunsLemmas.{ends-by, delivers-as}
+use Rattle.knox.proofs.ConsequencesLemmas.{says-yes, says-closed, says-one-meaning, says-usage, complete, complete-yes, explained, asks-prefix}
+use Rattle.knox.proofs.WritingLemmas.{delivers-none}
 use Rattle.knox.proofs.run.run.Goals as goal
+
+pub returns-in-Ok : goal.returns-in-Ok
+returns-in-Ok g c =
+    let s : Seen = seen (bytes_of c.args.words.now.items.items) (g.F.Shelf.history c.args.shelf.now) (g.F.Shelf.history c.work-outcome.new.shelf)
+    (g.O.Sink.told c.args.out.now) (g.O.Sink.told c.deliver.new.out) (g.E.Sink.told c.args.err.now) (g.E.Sink.told c.deliver.new.err) c.deliver.result in
+    let ends : Ends s =
+    ends-by (bytes_of c.args.words.now.items.items) (bytes_of c.as_slice-words.result.now) _ _ c.work-outcome.result c.deliver.result _ _ _ _
+    (ap bytes_of c.as_slice-words.ensures.value) c.work-outcome.ensures
+    (delivers-as _ _ _ _ _ _ c.deliver.result _ _ _ _ c.in-Ok.ensures.out (c.in-Ok.ensures.err ∙ ap (λ ns. to_err ns c.work-outcome.result) c.text_names.ensures) c.in-Ok.ensures.status c.deliver.ensures) in
+    record { yes = says-yes s ends; closed = says-closed s ends; one_meaning = says-one-meaning s ends; complete = complete s ends; complete_yes = complete-yes s ends; usage = says-usage s ends; names = asks-prefix s ends; ends = ends; explained = explained s ends }
 
 pub returns : goal.returns
 returns g c =
-    let ws : List Bytes = bytes_of c.args.words.now.items.items in
-    let before : Reads = record { names = g.F.Shelf.names c.args.shelf.now; given = g.F.Shelf.given c.args.shelf.now; taken = g.F.Shelf.taken c.args.shelf.now; faults = g.F.Shelf.faults c.args.shelf.now } in
-    let after : Reads = record { names = g.F.Shelf.names c.work-outcome.new.shelf; given = g.F.Shelf.given c.work-outcome.new.shelf; taken = g.F.Shelf.taken c.work-outcome.new.shelf; faults = g.F.Shelf.faults c.work-outcome.new.shelf } in
-    let out : Sunk = record { written = g.O.Sink.written c.args.out.now; faults = g.O.Sink.faults c.args.out.now } in
-    let out' : Sunk = record { written = g.O.Sink.written c.deliver.new.out; faults = g.O.Sink.faults c.deliver.new.out } in
-    let err : Sunk = record { written = g.E.Sink.written c.args.err.now; faults = g.E.Sink.faults c.args.err.now } in
-    let err' : Sunk = record { written = g.E.Sink.written c.deliver.new.err; faults = g.E.Sink.faults c.deliver.new.err } in
-    let ends : Ends ws c.deliver.result before after out out' err err' =
-    Ends-by ws (bytes_of c.as_slice-words.result.now) (bytes_of c.text_names.result.now) c.text_letters-letters.result.now before after c.work-outcome.result c.deliver.result out out' err err'
-    (ap bytes_of c.as_slice-words.ensures.value) c.text_names.ensures c.text_letters-letters.ensures c.work-outcome.ensures c.deliver.ensures in
-    record {
-      ends = ends;
-      explained = explained ws c.deliver.result before after out out' err err' ends;
-      circuit = tells_circuit ws c.deliver.result before after out out' err err' ends;
-      names = asks_prefix ws c.deliver.result before after out out' err err' ends;
-    }
+    let s : Seen = seen (bytes_of c.args.words.now.items.items) (g.F.Shelf.history c.args.shelf.now) (g.F.Shelf.history c.work-outcome.new.shelf)
+    (g.O.Sink.told c.args.out.now) (g.O.Sink.told c.args.out.now) (g.E.Sink.told c.args.err.now) (g.E.Sink.told c.args.err.now) Memory in
+    let ends : Ends s =
+    ends-by (bytes_of c.args.words.now.items.items) (bytes_of c.as_slice-words.result.now) _ _ c.work-outcome.result _ (g.O.Sink.told c.args.out.now) (g.O.Sink.told c.args.out.now) (g.E.Sink.told c.args.err.now) (g.E.Sink.told c.args.err.now)
+    (ap bytes_of c.as_slice-words.ensures.value) c.work-outcome.ensures (delivers-none _ (g.O.Sink.told c.args.out.now) (g.E.Sink.told c.args.err.now) _ _) in
+    record { yes = says-yes s ends; closed = says-closed s ends; one_meaning = says-one-meaning s ends; complete = complete s ends; complete_yes = complete-yes s ends; usage = says-usage s ends; names = asks-prefix s ends; ends = ends; explained = explained s ends }

@@ -1,7 +1,6 @@
-use Rattle.std.proofs.Common.{◌∙◌, ap, sym, subst, Some}
+use Rattle.std.proofs.Common.{◌∙◌, ap, sym, Some}
 use Rattle.knox_edge.specs.Texts.{bytes_of}
-use Rattle.knox.specs.Runs.{IsVerify, IsCheck}
-use Rattle.knox.proofs.Verified.{length-names, length-two, Because-named, Because-checked}
+use Rattle.knox.proofs.RunsLemmas.{length-names, length-two, because-named}
 use Rattle.knox.proofs.run.work.Goals as goal
 
 pub verify-requires : goal.verify-requires
@@ -11,8 +10,8 @@ verify-requires g c =
 
 pub returns-in-Some-Verify : goal.returns-in-Some-Verify
 returns-in-Some-Verify g c =
-    Because-named (bytes_of c.args.words.now) (bytes_of c.text_names.result.now) _ _ c.verify.result
-    (subst IsVerify (ap Some (sym c.in-Some-Verify.field-0-is) ∙ c.in-Some-Verify.ensures.value) tt)
+    because-named (bytes_of c.args.words.now) (bytes_of c.text_names.result.now) _ _ c.verify.result _
+    (sym (ap Some (sym c.in-Some-Verify.field-0-is) ∙ c.in-Some-Verify.ensures.value))
     c.text_names.ensures c.verify.ensures
 
 pub check-requires : goal.check-requires
@@ -22,6 +21,6 @@ check-requires g c =
 
 pub returns-in-Some-Check : goal.returns-in-Some-Check
 returns-in-Some-Check g c =
-    Because-checked (bytes_of c.args.words.now) (bytes_of c.text_names-in-Some-Check.result.now) _ _ c.check.result
-    (subst IsCheck (ap Some (sym c.in-Some-Check.field-0-is) ∙ c.in-Some-Check.ensures.value) tt)
+    because-named (bytes_of c.args.words.now) (bytes_of c.text_names-in-Some-Check.result.now) _ _ c.check.result _
+    (sym (ap Some (sym c.in-Some-Check.field-0-is) ∙ c.in-Some-Check.ensures.value))
     c.text_names-in-Some-Check.ensures c.check.ensures

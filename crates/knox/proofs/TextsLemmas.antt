@@ -1,17 +1,10 @@
 -- The last five texts of a list, or the last two, one by one.
-use Rattle.std.proofs.Common.{◌≡◌, ◌∙◌, ◌≤◌, ◌+◌, ℕ, zero, suc, List, [], ◌∷◌, length, drop, ap, sym, Option, Some, zero-add, arith, subst, nat_lt, false, refl, None, Err}
+use Rattle.std.proofs.Common.{◌≡◌, ◌∙◌, ◌≤◌, ◌+◌, ℕ, zero, suc, List, [], ◌∷◌, length, drop, ap, sym, Option, Some, zero-add, arith, subst}
 use Rattle.std.specs.List.{slice_get}
 use Rattle.std.specs.Option.{option_map, unwrap_or}
 use Rattle.std.proofs.lemmas.Option.{slice_get_past}
 use Rattle.knox_edge.specs.Texts.{Bytes, Named, limit}
-use Rattle.knox_verify.specs.declared.verdict.Letter.{Letter}
-use Rattle.knox_verify.specs.declared.verdict.Letter.TheVariants.{C, D, H}
 use Rattle.knox.specs.Reading.{Within, texts_of}
-use Rattle.knox_verify.specs.declared.verdict.TextWhy.{TextWhy}
-use Rattle.knox_verify.specs.declared.verdict.TextWhy.TheVariants.{TooLong, Circuit, Lang, Script}
-use Rattle.knox.specs.Verdicts.{NamesTexts}
-use Rattle.knox_verify.specs.declared.verdict.VerifyFault.TheVariants.{Text}
-use Rattle.knox_verify.specs.Verdicts.{first_long, RefusesLong, Explains, Names}
 
 pub slice_get-drop : (xs : List Named) (n k : ℕ) → slice_get xs (n + k) ≡ slice_get (drop n xs) k
 slice_get-drop xs zero k = ap (slice_get xs) (zero-add k)
@@ -66,25 +59,3 @@ two-drop es first f p n u v =
 -- each of two texts within the limit is so
 pub two-within : (ts : List Bytes) (f p : Bytes) → Within ts → ts ≡ f ∷ p ∷ [] → (length f ≤ limit) × (length p ≤ limit)
 two-within ts f p within are = let w = subst Within are within in (w.0, w.1.0)
-
--- none of five texts within the limit is over it
-short : (t : Bytes) → length t ≤ limit → nat_lt limit (length t) ≡ false
-short t le = grind arith
-
-none-long : (c s d e h : Bytes) → Within (c ∷ s ∷ d ∷ e ∷ h ∷ []) → first_long c s d e h ≡ None
-none-long c s d e h w = rw (short c w.0, short s w.1.0, short d w.1.1.0, short e w.1.1.1.0, short h w.1.1.1.1.0) refl
-
--- a text that isn't too long is refused for its fault
-named : (c s d e h : Bytes) (letter : Letter) (why : TextWhy) → RefusesLong None (Err (Text letter why)) → Explains c s d e h (Text letter why) → Names c s d e h (Text letter why)
-named c s d e h C (Circuit f) long told = told
-named c s d e h D (Lang f) long told = told
-named c s d e h H (Script f) long told = told
-named c s d e h letter TooLong long told = absurd long
-named c s d e h letter (Circuit f) long told = absurd told
-named c s d e h letter (Lang f) long told = absurd told
-named c s d e h letter (Script f) long told = absurd told
-
-pub five-named : (ts : List Bytes) (c s d e h : Bytes) (letter : Letter) (why : TextWhy) → Within ts → ts ≡ c ∷ s ∷ d ∷ e ∷ h ∷ [] → RefusesLong (first_long c s d e h) (Err (Text letter why)) → Explains c s d e h (Text letter why) → NamesTexts (Text letter why) ts
-five-named ts c s d e h letter why within are long told =
-    subst (NamesTexts (Text letter why)) (sym are)
-    (named c s d e h letter why (subst (λ o. RefusesLong o (Err (Text letter why))) (none-long c s d e h (subst Within are within)) long) told)

@@ -1,0 +1,194 @@
+//! The lines of an answer.
+ghost use Rattle.std.specs.Prelude.{◌≡◌, IfOk, string_bytes};
+ghost use Rattle.knox.specs.Lines as the;
+
+use crate::checking::CheckEnd;
+use crate::outcome::TextFault;
+use expr_read::LangWhy;
+use knox_circuit::Why;
+use knox_text::Place;
+use knox_verify::{Letter, TextWhy, Verdict};
+use knox_words::Word;
+use lrat_check::Step;
+use proof_text::ProofFault;
+use script_read::ScriptWhy;
+use std::alloc::{AllocError, Global};
+
+/// The line of a text that could not be read.
+pub fn cannot_read(alloc: Global, name: &[u8]) -> Result<Vec<u8>, AllocError>
+    ensures { IfOk result (λ line. line.items ≡ the.cannot_read_line name.now) }
+{
+    let mut line = Vec::from_slice(alloc, b"cannot read ")?;
+    line.extend_from_slice(name)?;
+    line.extend_from_slice(b"\n")?;
+    Ok(line)
+}
+
+fn letter_name(letter: Letter) -> &'static str
+    ensures { result.now ≡ the.letter_name letter }
+{
+    match letter {
+        Letter::C => "C",
+        Letter::S => "S",
+        Letter::D => "D",
+        Letter::E => "E",
+        Letter::H => "H",
+        Letter::T => "T",
+        Letter::F => "F",
+        Letter::P => "P",
+    }
+}
+
+fn rule_name(why: Why) -> &'static str
+    ensures { result.now ≡ the.rule_name why }
+{
+    match why {
+        Why::TooManyLines => "TooManyLines",
+        Why::Number => "Number",
+        Why::Order => "Order",
+        Why::Constraint => "Constraint",
+        Why::Unsupported => "Unsupported",
+        Why::Keyword => "Keyword",
+        Why::Operand => "Operand",
+        Why::Sort => "Sort",
+        Why::Digits => "Digits",
+        Why::Width => "Width",
+        Why::Init => "Init",
+        Why::Next => "Next",
+        Why::TooManyWords => "TooManyWords",
+        Why::Memory => "Memory",
+    }
+}
+
+fn lang_name(why: LangWhy) -> &'static str
+    ensures { result.now ≡ the.lang_name why }
+{
+    match why {
+        LangWhy::Form => "Form",
+        LangWhy::UnknownName => "UnknownName",
+        LangWhy::Twice => "Twice",
+        LangWhy::Width => "Width",
+        LangWhy::Arity => "Arity",
+        LangWhy::Bound => "Bound",
+        LangWhy::Missing => "Missing",
+        LangWhy::Memory => "Memory",
+    }
+}
+
+fn script_name(why: ScriptWhy) -> &'static str
+    ensures { result.now ≡ the.script_name why }
+{
+    match why {
+        ScriptWhy::Form => "Form",
+        ScriptWhy::UnknownName => "UnknownName",
+        ScriptWhy::Twice => "Twice",
+        ScriptWhy::Width => "Width",
+        ScriptWhy::Arity => "Arity",
+        ScriptWhy::Bound => "Bound",
+        ScriptWhy::Missing => "Missing",
+        ScriptWhy::Memory => "Memory",
+    }
+}
+
+/// A text's fault without a place.
+fn of_whole_text(alloc: Global, letter: Letter, word: &str) -> Result<String, AllocError>
+    ensures { IfOk result (λ line. string_bytes line ≡ the.whole_text_line letter word.now) }
+{
+    let letter = letter_name(letter);
+    format!(in alloc; "text {letter} {word}\n")
+}
+
+/// A fault on a line of a circuit's text.
+fn at_line(alloc: Global, letter: Letter, line: u32, word: &str) -> Result<String, AllocError>
+    ensures { IfOk result (λ shown. string_bytes shown ≡ the.at_line letter line word.now) }
+{
+    let letter = letter_name(letter);
+    format!(in alloc; "text {letter} line {line} {word}\n")
+}
+
+/// A text's fault at a place.
+fn at_place(alloc: Global, letter: Letter, at: Place, word: &str) -> Result<String, AllocError>
+    ensures { IfOk result (λ shown. string_bytes shown ≡ the.at_place letter at word.now) }
+{
+    let letter = letter_name(letter);
+    let line = at.line;
+    let column = at.column;
+    format!(in alloc; "text {letter} {line}:{column} {word}\n")
+}
+
+/// The line of the fault of a text.
+pub fn text_line(alloc: Global, letter: Letter, why: TextFault) -> Result<String, AllocError>
+    ensures { IfOk result (λ line. string_bytes line ≡ the.text_line letter why) }
+{
+    match why {
+        TextFault::OfDevice(TextWhy::TooLong) => of_whole_text(alloc, letter, "TooLong"),
+        TextFault::OfDevice(TextWhy::Circuit(fault)) => {
+            at_line(alloc, letter, fault.line, rule_name(fault.why))
+        }
+        TextFault::OfDevice(TextWhy::Lang(fault)) => {
+            at_place(alloc, letter, fault.place, lang_name(fault.why))
+        }
+        TextFault::OfDevice(TextWhy::Script(fault)) => {
+            at_place(alloc, letter, fault.place, script_name(fault.why))
+        }
+        TextFault::OfProof(ProofFault::Header(at)) => at_place(alloc, letter, at, "Header"),
+        TextFault::OfProof(ProofFault::Count(at)) => at_place(alloc, letter, at, "Count"),
+        TextFault::OfProof(ProofFault::Variable(at)) => at_place(alloc, letter, at, "Variable"),
+        TextFault::OfProof(ProofFault::Shape(at)) => at_place(alloc, letter, at, "Shape"),
+        TextFault::OfProof(ProofFault::Memory) => of_whole_text(alloc, letter, "Memory"),
+    }
+}
+
+/// The line of a proof's line that is refused.
+fn rejected(alloc: Global, number: u32, why: Step) -> Result<String, AllocError>
+    ensures { IfOk result (λ line. string_bytes line ≡ the.rejected_line number why) }
+{
+    match why {
+        Step::IdNotNew(id) => format!(in alloc; "rejected line {number} IdNotNew {id}\n"),
+        Step::Rat(id) => format!(in alloc; "rejected line {number} Rat {id}\n"),
+        Step::NoSuchClause(id) => format!(in alloc; "rejected line {number} NoSuchClause {id}\n"),
+        Step::NotUnit(id) => format!(in alloc; "rejected line {number} NotUnit {id}\n"),
+        Step::NoConflict => format!(in alloc; "rejected line {number} NoConflict\n"),
+        Step::Memory => format!(in alloc; "rejected line {number} Memory\n"),
+    }
+}
+
+/// The line of how a check ended.
+pub fn check_line(alloc: Global, end: CheckEnd) -> Result<String, AllocError>
+    ensures { IfOk result (λ line. string_bytes line ≡ the.check_line end) }
+{
+    match end {
+        CheckEnd::Verified => String::from_str(alloc, "verified\n"),
+        CheckEnd::Rejected(number, why) => rejected(alloc, number, why),
+        CheckEnd::NoEmptyClause => String::from_str(alloc, "rejected no empty clause\n"),
+    }
+}
+
+/// The lines of a hint that choices falsify, with the words that the run takes.
+fn undecided(alloc: Global, hint: u32, words: &[Word]) -> Result<String, AllocError>
+    ensures { IfOk result (λ lines. string_bytes lines ≡ the.undecided_lines hint words.now) }
+{
+    let mut lines = format!(in alloc; "undecided {hint}\nchoices")?;
+    for word in words {
+        let value = word.value();
+        let spaced = format!(in alloc; " {value}")?;
+        lines.push_str(spaced.as_str())?;
+    }
+    lines.push_str("\n")?;
+    Ok(lines)
+}
+
+/// The lines of a verdict.
+pub fn verdict_lines(alloc: Global, verdict: &Verdict) -> Result<String, AllocError>
+    ensures { IfOk result (λ lines. string_bytes lines ≡ the.verdict_lines verdict.now) }
+{
+    match verdict {
+        Verdict::Yes => String::from_str(alloc, "yes\n"),
+        Verdict::Undecided(hint, words) => undecided(alloc, hint.0, words.words.as_slice()),
+        Verdict::TooWide(hint, bits) => {
+            let hint = hint.0;
+            let bits = *bits;
+            format!(in alloc; "too-wide {hint} {bits}\n")
+        }
+    }
+}
