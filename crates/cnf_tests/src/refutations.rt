@@ -47,8 +47,14 @@ fn what_is_refused(rt: HostRuntime) -> Result<(), Fail> {
     assert_eq!(rt; first(alloc, &[-1], &[-1, 2])?, Err(RatStep::Uncovered(3)));
     assert_eq!(rt; first(alloc, &[2], &[-1, 2])?, Err(RatStep::NotPivot(1)));
     assert_eq!(rt; first(alloc, &[], &[-1, 2])?, Err(RatStep::NoPivot));
-    assert_eq!(rt; first(alloc, &[-1], &[-7, 2])?, Err(RatStep::NoSuchClause(7)));
+    assert_eq!(rt;
+        first(alloc, &[-1], &[-7, 2])?,
+        Err(RatStep::NoSuchClause(7))
+    );
     assert_eq!(rt; first(alloc, &[-1], &[])?, Err(RatStep::NoConflict));
-    assert_eq!(rt; first(alloc, &[-1], &[-1, 2, -3])?, Err(RatStep::NoConflict));
+    assert_eq!(rt;
+        first(alloc, &[-1], &[-1, 2, -3])?,
+        Err(RatStep::NoConflict)
+    );
     Ok(())
 }
