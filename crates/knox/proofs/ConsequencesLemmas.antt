@@ -20,7 +20,7 @@ use Rattle.knox.specs.declared.status.Status.{Status}
 use Rattle.knox.specs.declared.status.Status.TheVariants as status
 use Rattle.knox.specs.declared.outcome.Outcome.{Outcome}
 use Rattle.knox.specs.declared.outcome.Outcome.TheVariants.{NoCommand, Unbuilt, Unread, Text, Judged, Checked, Memory}
-use Rattle.knox.specs.declared.outcome.TextFault.TheVariants.{OfDevice, OfProof}
+use Rattle.knox.specs.declared.outcome.TextFault.TheVariants.{OfDevice}
 use Rattle.knox.specs.declared.checking.CheckEnd.TheVariants.{Verified, Rejected, NoEmptyClause}
 use Rattle.knox.specs.Commands.{command_of}
 use Rattle.knox.specs.Checking.{ChecksTexts}
@@ -28,7 +28,7 @@ use Rattle.knox.specs.Outcomes.{status_of, to_out, to_err}
 use Rattle.knox.specs.Reading.{ReadWhole, ReadUpTo, RefusesRead, OfTexts, texts_of}
 use Rattle.knox.specs.Runs.{Seen, IsVerify, IsCheck, IsOther, Verified as IsVerified, VerifiesTo, OfFive, outcome_of, Because, Ends, names_of}
 use Rattle.knox.specs.Writing.{StopsBoth}
-use Rattle.knox.specs.Consequences.{Wrote, SaysYes, SaysClosed, SaysOneMeaning, SaysUsage, Explains, AsksPrefix, IsUnhindered, IsVerdict, IsComplete, IsCompleteYes}
+use Rattle.knox.specs.Consequences.{Wrote, SaysYes, SaysClosed, SaysOneMeaning, SaysUsage, Explains, AsksPrefix, IsUnhindered, IsVerdict, IsComplete, IsCompleteYes, WhereGiven, TellsFirstFault}
 
 -- ---- the ways to an outcome
 
@@ -294,4 +294,54 @@ complete-yes s ends u means =
           let given = means h.0 in
           let same : given.0 ≡ h.1.0 = same-five given.0 h.1.0 (sym given.1 ∙ h.1.1) in
           yes-by s h.1.0 h.1.2.0 given.2.0 h.1.2.1 h.1.2.2 (subst (λ (t : FiveTexts). Means t given.2.0) same given.2.1) given.2.2
+    ]
+
+-- ---- the first fault of five texts
+
+abbrev Told : Seen → VerifyFault → Type 0
+Told s f = ((s.status ≡ status_of (outcome_of (Err f))) × Wrote s [] (to_err (names_of s.words) (outcome_of (Err f)))) ⊎ (s.status ≡ status.Memory)
+
+nothing-out : (f : VerifyFault) → to_out (outcome_of (Err f)) ≡ []
+nothing-out (refusal.Text letter why) = refl
+nothing-out refusal.NotYet = refl
+nothing-out refusal.Memory = refl
+
+told-by : (s : Seen) (f : VerifyFault) (r : Result Verdict VerifyFault) (o : Outcome) → o ≡ outcome_of r → s.status ≡ status_of o → Wrote-of s o → (r ≡ Err f) ⊎ (r ≡ Err refusal.Memory) → Told s f
+told-by s f r o is st w (inl e) =
+    let same : o ≡ outcome_of (Err f) = is ∙ ap outcome_of e in
+    let wrote : Wrote s (to_out (outcome_of (Err f))) (to_err (names_of s.words) (outcome_of (Err f))) = subst (Wrote-of s) same w in
+    inl (st ∙ ap status_of same, subst (λ (out : Bytes). Wrote s out (to_err (names_of s.words) (outcome_of (Err f)))) (nothing-out f) wrote)
+told-by s f r o is st w (inr e) = inr (st ∙ ap status_of (is ∙ ap outcome_of e))
+
+refused-told : (s : Seen) (f : VerifyFault) (c : Command) (o : Outcome) → IsUnhindered s → s.status ≡ status_of o → RefusesRead c (names_of s.words) s.before s.after o → Told s f
+refused-told s f c (Unread which) u is r = absurd (u.read (subst (λ n. Rose n s.after.faults) r.whole.faults r.refused.faults))
+refused-told s f c (Text letter (OfDevice TooLong)) u is r = absurd (u.short r.2.refused.taken)
+refused-told s f c Memory u is r = inr is
+refused-told s f c _ u is r = absurd r
+
+way-told : (s : Seen) (f : VerifyFault) (o : Outcome) → IsUnhindered s → WhereGiven s (λ t. FirstFault t f) → s.status ≡ status_of o → Wrote-of s o → Way (command_of s.words) (names_of s.words) s.before s.after o → Told s f
+way-told s f o u bad is w (inl h) = not-none (command_of s.words) h.0 u.verify
+way-told s f o u bad is w (inr (inl h)) = not-other (command_of s.words) u.verify h.0
+way-told s f o u bad is w (inr (inr (inl h))) = refused-told s f h.0 o u is h.3
+way-told s f o u bad is w (inr (inr (inr (inl h)))) =
+    let five = h.1.1 in
+    let given = bad h.1.0 in
+    let same : given.0 ≡ five.0 = same-five given.0 five.0 (sym given.1 ∙ five.1) in
+    told-by s f five.2.0 o five.2.1 is w (five.2.2.first_fault f (subst (λ (t : FiveTexts). FirstFault t f) same given.2))
+way-told s f o u bad is w (inr (inr (inr (inr h)))) = not-check (command_of s.words) u.verify h.0
+
+stop-told : (s : Seen) (f : VerifyFault) (r : Status) (a b : Bytes) → IsUnhindered s → s.status ≡ r → StopsBoth a b r s.out_before s.out_after s.err_before s.err_after → Told s f
+stop-told s f status.WriteFault a b u is h =
+    elim h.2 as (λ _. Told s f) [
+      | inl x ↦ absurd (u.out_put x)
+      | inr x ↦ absurd (u.err_put x)
+    ]
+stop-told s f status.Memory a b u is h = inr is
+stop-told s f _ a b u is h = absurd h
+
+pub tells-first-fault : (s : Seen) → Ends s → TellsFirstFault s
+tells-first-fault s ends f u bad =
+    elim ends.2 as (λ _. Told s f) [
+      | inl d ↦ way-told s f ends.0 u bad d.0 (d.1, d.2) (way (command_of s.words) (names_of s.words) s.before s.after ends.0 ends.1)
+      | inr h ↦ stop-told s f s.status _ _ u refl h
     ]

@@ -1,5 +1,5 @@
 -- What is known of a run by its status.
-use Rattle.std.specs.Prelude.{◌≡◌, ℕ, ◌+◌, List, [], ◌++◌, Option, Some, None, Ok, Err, Result, codes, take, slice_index_or, ◌⊎◌}
+use Rattle.std.specs.Prelude.{◌≡◌, ℕ, ◌+◌, [], ◌++◌, Some, None, Ok, Err, codes, take, slice_index_or, ◌⊎◌}
 use Rattle.knox_theory.specs.Agreement.{Agree}
 use Rattle.knox_edge.specs.declared.shelf.ShelfEnd.TheVariants.{Failed}
 use Rattle.knox_edge.specs.Counts.{Rose}
@@ -9,6 +9,7 @@ use Rattle.script_core.specs.declared.parts.Choices.{Choices}
 use Rattle.lrat_check.specs.declared.step.Step.{Step}
 use Rattle.knox_verify.specs.declared.verdict.Letter.{Letter}
 use Rattle.knox_verify.specs.declared.verdict.TextWhy.{TextWhy}
+use Rattle.knox_verify.specs.declared.verdict.VerifyFault.{VerifyFault}
 use Rattle.knox_verify.specs.declared.verdict.VerifyFault.TheVariants as refusal
 use Rattle.knox_verify.specs.declared.verdict.Verdict.{Verdict}
 use Rattle.knox_verify.specs.declared.verdict.Verdict.TheVariants.{Yes, Undecided, TooWide}
@@ -28,7 +29,8 @@ use Rattle.knox.specs.Commands.{command_of}
 use Rattle.knox.specs.Checking.{ChecksTexts}
 use Rattle.knox.specs.Lines.{usage_line, not_yet_line, cannot_read_line, text_line, check_line, verdict_lines}
 use Rattle.knox.specs.Reading.{ReadWhole, ReadUpTo, RefusesRead, OfTexts, texts_of}
-use Rattle.knox.specs.Runs.{Seen, IsVerify, IsCheck, IsOther, Verified as IsVerified, OfFive, names_of}
+use Rattle.knox.specs.Runs.{Seen, IsVerify, IsCheck, IsOther, Verified as IsVerified, OfFive, names_of, outcome_of}
+use Rattle.knox.specs.Outcomes.{status_of, to_err}
 use Rattle.knox.specs.Writing.{Whole}
 
 -- the words are a verify command, the shelf gave five texts, and this is said of them
@@ -119,3 +121,9 @@ IsComplete s = IsUnhindered s → WhereGiven s (λ t. (p : Parts) × Means t p) 
 -- and a yes where the script that they mean is closed
 abbrev pub IsCompleteYes : Seen → Type 0
 IsCompleteYes s = IsUnhindered s → WhereGiven s (λ t. (p : Parts) × Means t p × AllHold p) → (s.status ≡ status.Yes) ⊎ (s.status ≡ status.Memory)
+
+-- The first fault of five texts is told, in its line, unless memory runs out.
+abbrev pub TellsFirstFault : Seen → Type 0
+TellsFirstFault s =
+    (f : VerifyFault) → IsUnhindered s → WhereGiven s (λ t. FirstFault t f) →
+    ((s.status ≡ status_of (outcome_of (Err f))) × Wrote s [] (to_err (names_of s.words) (outcome_of (Err f)))) ⊎ (s.status ≡ status.Memory)

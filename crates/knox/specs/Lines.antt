@@ -1,5 +1,5 @@
 -- What a run prints: the lines of a verdict and of a check on `out`, those of anything else on `err`.
-use Rattle.std.specs.Prelude.{ℕ, List, [], ◌++◌, codes}
+use Rattle.std.specs.Prelude.{ℕ, List, ◌++◌, codes}
 use Rattle.std.specs.List.{flat_map}
 use Rattle.std.specs.Fmt.{decimal}
 use Rattle.knox_text.specs.declared.place.Place.{Place}
@@ -13,11 +13,9 @@ use Rattle.script_read.specs.declared.fault.ScriptWhy.{ScriptWhy}
 use Rattle.script_read.specs.declared.fault.ScriptWhy.TheVariants as script
 use Rattle.lrat_check.specs.declared.step.Step.{Step}
 use Rattle.lrat_check.specs.declared.step.Step.TheVariants as step
-use Rattle.proof_text.specs.declared.fault.ProofFault.{ProofFault}
 use Rattle.proof_text.specs.declared.fault.ProofFault.TheVariants as proof
 use Rattle.knox_verify.specs.declared.verdict.Letter.{Letter}
 use Rattle.knox_verify.specs.declared.verdict.Letter.TheVariants.{C, S, D, E, H, T, F, P}
-use Rattle.knox_verify.specs.declared.verdict.TextWhy.{TextWhy}
 use Rattle.knox_verify.specs.declared.verdict.TextWhy.TheVariants.{TooLong, Circuit, Lang, Script}
 use Rattle.knox_verify.specs.declared.verdict.Verdict.{Verdict}
 use Rattle.knox_verify.specs.declared.verdict.Verdict.TheVariants.{Yes, Undecided, TooWide}

@@ -1,5 +1,5 @@
 -- A run as it is seen from outside, and why it ends as it does.
-use Rattle.std.specs.Prelude.{◌≡◌, ℕ, List, [], ◌∷◌, Option, Some, None, take, drop, ◌⊎◌, Result, Ok, Err, IfOk, IfErr}
+use Rattle.std.specs.Prelude.{◌≡◌, List, [], ◌∷◌, Option, Some, None, take, drop, ◌⊎◌, Result, Ok, Err, IfOk, IfErr}
 use Rattle.knox_edge.specs.Texts.{Bytes, Reads}
 use Rattle.knox_edge.specs.Sink.{Sunk}
 use Rattle.knox_theory.specs.Agreement.{Agree}

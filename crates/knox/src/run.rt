@@ -3,7 +3,7 @@ ghost use Rattle.std.specs.Prelude.{◌≡◌, ◌≤◌, Some, take, length};
 ghost use Rattle.knox_edge.specs.Texts.{bytes_of};
 ghost use Rattle.knox.specs.Commands.{command_of};
 ghost use Rattle.knox.specs.Runs.{seen, Because, ComesTo, Ends, names_of};
-ghost use Rattle.knox.specs.Consequences.{SaysYes, SaysClosed, SaysOneMeaning, SaysUsage, IsComplete, IsCompleteYes, Explains, AsksPrefix};
+ghost use Rattle.knox.specs.Consequences.{SaysYes, SaysClosed, SaysOneMeaning, SaysUsage, IsComplete, IsCompleteYes, TellsFirstFault, Explains, AsksPrefix};
 
 use crate::answer::{answer_of, deliver};
 use crate::command::{Command, read_command};
@@ -96,6 +96,7 @@ pub fn run<F: Shelf, O: Sink, E: Sink>(
     ensures one_meaning { SaysOneMeaning (seen (bytes_of words.now.items.items) (F.history shelf.old) (F.history shelf.new) (O.told out.old) (O.told out.new) (E.told err.old) (E.told err.new) result) }
     ensures complete { IsComplete (seen (bytes_of words.now.items.items) (F.history shelf.old) (F.history shelf.new) (O.told out.old) (O.told out.new) (E.told err.old) (E.told err.new) result) }
     ensures complete_yes { IsCompleteYes (seen (bytes_of words.now.items.items) (F.history shelf.old) (F.history shelf.new) (O.told out.old) (O.told out.new) (E.told err.old) (E.told err.new) result) }
+    ensures first_fault { TellsFirstFault (seen (bytes_of words.now.items.items) (F.history shelf.old) (F.history shelf.new) (O.told out.old) (O.told out.new) (E.told err.old) (E.told err.new) result) }
     ensures usage { SaysUsage (seen (bytes_of words.now.items.items) (F.history shelf.old) (F.history shelf.new) (O.told out.old) (O.told out.new) (E.told err.old) (E.told err.new) result) }
     ensures names { AsksPrefix (seen (bytes_of words.now.items.items) (F.history shelf.old) (F.history shelf.new) (O.told out.old) (O.told out.new) (E.told err.old) (E.told err.new) result) }
     ensures ends { Ends (seen (bytes_of words.now.items.items) (F.history shelf.old) (F.history shelf.new) (O.told out.old) (O.told out.new) (E.told err.old) (E.told err.new) result) }
