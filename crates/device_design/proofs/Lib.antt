@@ -4,3 +4,5 @@ pub mod PowerLemmas
 pub mod RomLemmas
 pub mod DesignLemmas
 pub mod DriverLemmas
+pub mod FitsLemmas
+pub mod LawfulLemmas

@@ -1,18 +1,24 @@
 //! Laws of devices, as functions that do nothing.
-ghost use Rattle.std.specs.Prelude.{◌≡◌, List, [], Bool, true, false, length};
+ghost use Rattle.std.specs.Prelude.{◌≡◌, ℕ, List, [], Bool, true, false, length, slice_get, slice_index, slice_set, Some, None};
 ghost use Rattle.knox_words.specs.Bits.{Bits};
-ghost use Rattle.knox_words.specs.Lists.{fit, pick};
+ghost use Rattle.knox_words.specs.Lists.{Words, fit, fits, pick};
 ghost use Rattle.knox_theory.specs.Device.{answered};
-ghost use Rattle.knox_theory.specs.Lawful.{FitsAsking, IsDesign, IsWireDesign};
+ghost use Rattle.knox_theory.specs.Design.{Config, Design};
+ghost use Rattle.knox_theory.specs.Lawful.{FitsAsking, IsDesign, IsDriver, IsWireDesign};
 ghost use Rattle.knox_circuit.specs.Circuit.{Circuit as Lines};
 ghost use Rattle.knox_circuit.specs.Cells.{cells_of, state_widths, keep_mask};
 ghost use Rattle.knox_circuit.specs.Ports.{input_widths, output_widths};
-ghost use Rattle.knox_circuit.specs.Rom.{rom_words};
+ghost use Rattle.knox_circuit.specs.Rom.{rom_words, fits_state};
+ghost use Rattle.knox_lang.specs.declared.parts.OpHead.{OpHead};
+ghost use Rattle.knox_lang.specs.declared.parts.Body.{Body};
 ghost use Rattle.knox_lang.specs.declared.parts.SpecParts.{SpecParts};
 ghost use Rattle.knox_lang.specs.declared.parts.DriverParts.{DriverParts};
 ghost use Rattle.knox_lang.specs.declared.parts.EmuParts.{EmuParts};
 ghost use Rattle.knox_lang.specs.Fitting.{fits_driver};
-ghost use Rattle.knox_lang.specs.WellFormed.{spec_fits, emulator_fits, word_widths};
+ghost use Rattle.knox_lang.specs.Operation.{arg_widths};
+ghost use Rattle.knox_lang.specs.WellFormed.{spec_fits, emulator_fits, word_widths, local_widths};
+ghost use Rattle.driver_machine.specs.Left.{Left, start, step};
+ghost use Rattle.driver_machine.specs.Fits.{fits_config};
 ghost use Rattle.driver_machine.specs.Lawful.{HasDriver};
 ghost use Rattle.emu_machine.specs.Emulator.{emulator_after_tick, fields_after_tick};
 ghost use Rattle.emu_machine.specs.Dialogue.{tick_dialogue};
@@ -22,6 +28,7 @@ ghost use Rattle.device_design.specs.Roms.{known_fit};
 
 use emu_machine::Device;
 use knox_circuit::Circuit;
+use knox_lang::DriverProgram;
 
 /// The dialogue of a tick, answered by the specification, ends with the words that the tick leaves:
 /// the specification's fields and the emulator's own.
@@ -67,6 +74,36 @@ pub fn devices_have_drivers(dev: &Device)
     rom_words_have_widths(&dev.circuit);
 }
 
+/// A design that has the driver of a circuit obeys the laws of drivers: words keep their widths, a
+/// driver at its end stays there, it comes there by the ticks that are left and one more move, and
+/// then its reply and its cells are those of the whole body.
+pub fn drivers_are_lawful(c: &Circuit, d: &DriverProgram)
+    requires { fits_driver (input_widths c.now.lines) (output_widths c.now.lines) (length (cells_of c.now.lines)) d.now ≡ true }
+    ensures { (g : Design Left) → HasDriver c.now.lines d.now g → IsDriver g }
+{
+    circuit_laws::circuits_have_widths(c);
+    circuit_laws::circuits_keep_widths(c);
+    circuit_laws::circuits_keep_rom_words(c);
+    circuit_laws::outputs_have_widths(c);
+    d.is_well_formed();
+}
+
+/// A place of a body stays one: the start of a body is one, a step leads to one, and so does another
+/// word of the same width in place of a local or of a device word that is no ROM word.
+pub fn places_are_kept(c: &Circuit, d: &DriverProgram)
+    requires { fits_driver (input_widths c.now.lines) (output_widths c.now.lines) (length (cells_of c.now.lines)) d.now ≡ true }
+    ensures start { (op : ℕ) (args cells : Words) (head : OpHead) → slice_get d.now.ops op ≡ Some head → fit (arg_widths head) args ≡ true → fits_state c.now.lines cells ≡ true → fits_config c.now.lines d.now op (start d.now op args cells) ≡ true }
+    ensures step { (op : ℕ) (x : Config Left) → fits_config c.now.lines d.now op x ≡ true → fits_config c.now.lines d.now op (step c.now.lines d.now x) ≡ true }
+    ensures word { (op : ℕ) (x : Config Left) (k : ℕ) (w : Bits) → slice_get (rom_words c.now.lines) k ≡ Some None → fits (slice_index (state_widths (cells_of c.now.lines)) k) w ≡ true → fits_config c.now.lines d.now op x ≡ true → fits_config c.now.lines d.now op (record x { cells = slice_set x.cells k w }) ≡ true }
+    ensures local_word { (op : ℕ) (x : Config Left) (b : Body) (k : ℕ) (w : Bits) → slice_get d.now.bodies op ≡ Some b → fits (slice_index (local_widths b) k) w ≡ true → fits_config c.now.lines d.now op x ≡ true → fits_config c.now.lines d.now op (record x { locals = slice_set x.locals k w }) ≡ true }
+{
+    circuit_laws::circuits_have_widths(c);
+    circuit_laws::circuits_keep_widths(c);
+    circuit_laws::circuits_keep_rom_words(c);
+    circuit_laws::outputs_have_widths(c);
+    d.is_well_formed();
+}
+
 /// The design of a device is lawful.
 pub fn devices_are_designs(dev: &Device)
     ensures { IsDesign (design_of dev.now.circuit dev.now.spec dev.now.driver dev.now.emulator) }
@@ -75,5 +112,5 @@ pub fn devices_are_designs(dev: &Device)
     dev.emulator.is_well_formed();
     parts_make_designs(&dev.circuit);
     devices_have_drivers(dev);
-    driver_machine::drivers_are_lawful(&dev.circuit, &dev.driver);
+    drivers_are_lawful(&dev.circuit, &dev.driver);
 }

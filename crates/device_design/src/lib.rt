@@ -6,6 +6,6 @@
 mod laws;
 
 pub use laws::{
-    devices_are_designs, devices_have_drivers, dialogue_is_the_tick, parts_make_designs,
-    queries_are_of_operations, rom_words_have_widths,
+    devices_are_designs, devices_have_drivers, dialogue_is_the_tick, drivers_are_lawful,
+    parts_make_designs, places_are_kept, queries_are_of_operations, rom_words_have_widths,
 };

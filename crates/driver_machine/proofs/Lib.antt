@@ -7,9 +7,7 @@ pub mod Steps
 pub mod Ending
 pub mod Moving
 pub mod Items
-pub mod Keeping
 pub mod Placed
-pub mod Lawfully
 pub mod Computed
 pub mod Walked
 pub mod Meeting

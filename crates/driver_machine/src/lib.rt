@@ -16,6 +16,6 @@ mod whole;
 
 pub use config::DriverConfig;
 pub use examples::{bodies_move, bodies_reply, drivers_fit, tests_are_met};
-pub use laws::{drivers_are_lawful, moves_are_steps, moves_meet_the_tests, places_are_kept};
+pub use laws::{moves_are_steps, moves_meet_the_tests};
 pub use reply::{Moved, Reply};
 pub use whole::{drive, tests_met};

@@ -12,8 +12,8 @@ use Rattle.knox_words.proofs.PickLemmas.{fit-pick, fit-merge, pick-merge-fit}
 use Rattle.knox_circuit.specs.Cells.{cells_of, state_widths, keep_mask}
 use Rattle.circuit_laws.proofs.CircuitLemmas.{zero-state, state-count, tick-keeps, factory-keeps, power-keeps, outputs-keep, power-kept, power-alone, rom-count, factory-agrees, tick-agrees, power-agrees}
 use Rattle.driver_machine.specs.Left.{Left}
-use Rattle.driver_machine.proofs.Keeping.{keeps-states}
-use Rattle.driver_machine.proofs.Lawfully.{is-driver, known}
+use Rattle.device_design.proofs.FitsLemmas.{keeps-states}
+use Rattle.device_design.proofs.LawfulLemmas.{is-driver, known}
 use Rattle.emu_machine.specs.Fits.{fits_device}
 use Rattle.device_design.specs.Meaning.{design_of}
 use Rattle.device_design.proofs.DesignLemmas.{CircuitLaws, parts-make-design, fit-together}

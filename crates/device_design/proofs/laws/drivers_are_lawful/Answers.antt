@@ -1,6 +1,6 @@
-use Rattle.driver_machine.proofs.Keeping.{keeps-states}
-use Rattle.driver_machine.proofs.Lawfully.{known, is-driver}
-use Rattle.driver_machine.proofs.laws.drivers_are_lawful.Goals as goal
+use Rattle.device_design.proofs.FitsLemmas.{keeps-states}
+use Rattle.device_design.proofs.LawfulLemmas.{known, is-driver}
+use Rattle.device_design.proofs.laws.drivers_are_lawful.Goals as goal
 
 pub returns : goal.returns
 returns c g has =

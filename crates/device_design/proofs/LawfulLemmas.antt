@@ -27,7 +27,7 @@ use Rattle.driver_machine.specs.Means.{means}
 use Rattle.driver_machine.specs.Lawful.{HasOp, HasDriver}
 use Rattle.driver_machine.proofs.Meaning.{start-means}
 use Rattle.driver_machine.proofs.Moving.{ended-move, ended-tests, finish-over, finish-means}
-use Rattle.driver_machine.proofs.Keeping.{KeepsStates, fits_state-set, run_fits-parts, run_fits-all, body-step}
+use Rattle.device_design.proofs.FitsLemmas.{KeepsStates, fits_state-set, run_fits-parts, run_fits-all, body-step}
 use Rattle.driver_machine.proofs.Items.{both, on-fits}
 
 widths-of : (ws : List ℕ) (as' : Words) → fit ws as' ≡ true → word_widths as' ≡ ws

@@ -1,7 +1,7 @@
 use Rattle.std.proofs.Common.{refl}
-use Rattle.driver_machine.proofs.Keeping.{keeps-states}
-use Rattle.driver_machine.proofs.Lawfully.{known, start-fits, step-fits, word-fits, local-fits}
-use Rattle.driver_machine.proofs.laws.places_are_kept.Goals as goal
+use Rattle.device_design.proofs.FitsLemmas.{keeps-states}
+use Rattle.device_design.proofs.LawfulLemmas.{known, start-fits, step-fits, word-fits, local-fits}
+use Rattle.device_design.proofs.laws.places_are_kept.Goals as goal
 
 pub returns-clause-start : goal.returns-clause-start
 returns-clause-start c op args cells head at =
