@@ -2,8 +2,7 @@
 use Rattle.std.proofs.Common.{◌≡◌, ℕ, zero, suc, ◌<◌, ◌==◌, ◌&&◌, List, [], ◌∷◌, Bool, true, false, not, refl, ap, sym, ◌∙◌, subst, Option, Some, None, length, slice_get, eqb-true, arith}
 use Rattle.std.specs.Cmp.Lexicographic.{pointwise, same_text}
 use Rattle.knox_words.specs.Bits.{Bits}
-use Rattle.knox_words.specs.Lists.{Words, fit, fits, are_widths, zeros, zeros_or, pick, merge}
-use Rattle.knox_words.proofs.Lists.{fit-zeros}
+use Rattle.knox_words.specs.Lists.{Words, fit, fits, zeros_or, pick, merge}
 use Rattle.knox_theory.specs.Design.{Fits}
 use Rattle.knox_theory.specs.Lawful.{IsCircuit, IsSpecification, IsEmulator, IsWireDesign}
 use Rattle.knox_circuit.specs.Circuit.{Circuit, state_after_tick, factory_state, state_after_power}
@@ -22,7 +21,7 @@ use Rattle.knox_lang.proofs.OperationLemmas.{spec-is-typed}
 use Rattle.emu_machine.specs.Fits.{same_heads, indices_fit, fits_specification, fits_emulator, fits_device}
 use Rattle.device_design.specs.Roms.{known_fit, rom_part}
 use Rattle.device_design.specs.Meaning.{head_args, head_result, persistent_roms, device_of, design_of}
-use Rattle.device_design.proofs.RomLemmas.{known-fit, filled-agree, part-fits, fits-widths, fits-agree, known-pick, agree-pick, over, over-fit, kept-stay}
+use Rattle.device_design.proofs.RomLemmas.{filled-agree, part-fits, fits-widths, fits-agree, known-pick, agree-pick, over, over-fit, kept-stay}
 use Rattle.cell_fields.specs.Fields.{name_cells}
 use Rattle.device_design.proofs.AskingLemmas.{tick-asks-fit, spec-init}
 use Rattle.device_design.proofs.PowerLemmas.{power-fits, names-widths}
@@ -34,15 +33,6 @@ pub record RomLaws (c : Circuit) (keep : List Bool) : Type 0 where
   pub factory : (noise : Words) → agree (rom_words c.lines) (factory_state c.lines noise) ≡ true
   pub tick : (state inputs : Words) → fit (state_widths (cells_of c.lines)) state ≡ true → agree (rom_words c.lines) state ≡ true → agree (rom_words c.lines) (state_after_tick c.lines state inputs) ≡ true
   pub power : (state noise : Words) → fit (state_widths (cells_of c.lines)) state ≡ true → fit (noise_widths c.lines keep) noise ≡ true → agree (rom_words c.lines) state ≡ true → agree (rom_words c.lines) (state_after_power c.lines keep state noise) ≡ true
-
--- ROM words have their widths, since there is a state that agrees with them
-pub roms-fit : (c : Circuit) → are_widths (noise_widths c.lines []) ≡ true → ((state : Words) → fit (state_widths (cells_of c.lines)) state ≡ true → length (rom_words c.lines) ≡ length state) →
-    ((noise : Words) → fit (noise_widths c.lines []) noise ≡ true → fit (state_widths (cells_of c.lines)) (factory_state c.lines noise) ≡ true) →
-    ((noise : Words) → agree (rom_words c.lines) (factory_state c.lines noise) ≡ true) → known_fit (rom_words c.lines) (state_widths (cells_of c.lines)) ≡ true
-roms-fit c widths count factory known =
-    let noise = zeros (noise_widths c.lines []) in
-    let fits_state = factory noise (fit-zeros (noise_widths c.lines []) widths) in
-    known-fit (rom_words c.lines) (state_widths (cells_of c.lines)) (factory_state c.lines noise) (count (factory_state c.lines noise) fits_state) fits_state (known noise)
 
 -- what is known of a circuit
 pub record CircuitLaws (c : Circuit) (keep : List Bool) : Type 0 where

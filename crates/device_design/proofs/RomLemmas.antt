@@ -1,28 +1,30 @@
 -- Words fit a part exactly where they have its widths and agree with what is known; and what is known of the persistent words.
-use Rattle.std.proofs.Common.{◌≡◌, ℕ, suc, List, [], ◌∷◌, length, Bool, true, false, Option, Some, None, refl, ap, sym, ◌∙◌, subst, arith}
+use Rattle.std.proofs.Common.{◌≡◌, ℕ, suc, List, [], ◌∷◌, length, Bool, true, false, Option, Some, None, slice_get, refl, ap, sym, ◌∙◌, subst, arith}
 use Rattle.std.proofs.lemmas.Bool.{and_parts, and_from}
-use Rattle.knox_words.specs.Bits.{Bits}
-use Rattle.knox_words.specs.Lists.{Words, fit, fits, same_word, pick, merge}
-use Rattle.knox_words.proofs.Lists.{same_word-refl, same_word-true, length-fit}
+use Rattle.knox_words.specs.Bits.{Bits, is_word}
+use Rattle.knox_words.specs.Lists.{Words, fit, fits, are_widths, zeros, same_word, pick, merge}
+use Rattle.knox_words.proofs.Lists.{is_word-IsWord, fits-from, fit-zeros, same_word-refl, same_word-true, length-fit}
 use Rattle.knox_words.proofs.PickLemmas.{length-pick, fit-pick, SameBeside, merge-pick}
 use Rattle.knox_theory.specs.Design.{Fits}
 use Rattle.knox_circuit.specs.Rom.{is_known, agree, free_mask}
 use Rattle.device_design.specs.Roms.{known_words, known_fit, rom_part}
 
--- what is known has its widths where words of these widths agree with it
-pub known-fit : (known : List (Option Bits)) (ws : List ℕ) (words : Words) → length known ≡ length words → fit ws words ≡ true → agree known words ≡ true → known_fit known ws ≡ true
-known-fit [] [] [] e h k = refl
-known-fit [] [] (x ∷ xs) e h k = cc
-known-fit [] (w ∷ ws) [] e h k = cc
-known-fit [] (w ∷ ws) (x ∷ xs) e h k = cc
-known-fit (o ∷ os) [] [] e h k = cc
-known-fit (o ∷ os) [] (x ∷ xs) e h k = cc
-known-fit (o ∷ os) (w ∷ ws) [] e h k = cc
-known-fit (None ∷ os) (w ∷ ws) (x ∷ xs) e h k = known-fit os ws xs (cc e) (and_parts (fits w x) (fit ws xs) h).1 k
-known-fit (Some v ∷ os) (w ∷ ws) (x ∷ xs) e h k =
-    let widths = and_parts (fits w x) (fit ws xs) h in
-    let words = and_parts (same_word v x) (agree os xs) k in
-    and_from (fits w v) (known_fit os ws) (subst (λ (a : Bits). fits w a ≡ true) (sym (same_word-true v x words.0)) widths.0) (known-fit os ws xs (cc e) widths.1 words.1)
+-- what is known has its widths where each known word has that of its place
+known-fit : (known : List (Option Bits)) (ws : List ℕ) → length known ≡ length ws → ((j : ℕ) (w : Bits) → slice_get known j ≡ Some (Some w) → (slice_get ws j ≡ Some w.width) × (is_word w ≡ true)) → known_fit known ws ≡ true
+known-fit [] [] e each = refl
+known-fit [] (w ∷ ws) e each = cc
+known-fit (o ∷ os) [] e each = cc
+known-fit (None ∷ os) (w ∷ ws) e each = known-fit os ws (cc e) (λ j x at. each (suc j) x at)
+known-fit (Some v ∷ os) (w ∷ ws) e each =
+    let here = each 0 v refl in
+    and_from (fits w v) (known_fit os ws) (fits-from w v (cc here.0) (is_word-IsWord v here.1)) (known-fit os ws (cc e) (λ j x at. each (suc j) x at))
+
+-- there is a known word or none for each place, since some words have the widths
+pub roms-fit : (known : List (Option Bits)) (ws : List ℕ) (n : ℕ) → are_widths ws ≡ true → length known ≡ n → ((words : Words) → fit ws words ≡ true → length words ≡ n) →
+    ((j : ℕ) (w : Bits) → slice_get known j ≡ Some (Some w) → (slice_get ws j ≡ Some w.width) × (is_word w ≡ true)) → known_fit known ws ≡ true
+roms-fit known ws n widths count counted each =
+    let zero_fit = fit-zeros ws widths in
+    known-fit known ws (count ∙ (sym (counted (zeros ws) zero_fit) ∙ length-fit ws (zeros ws) zero_fit)) each
 
 known-length : (known : List (Option Bits)) (ws : List ℕ) → known_fit known ws ≡ true → length known ≡ length ws
 known-length [] [] h = refl

@@ -50,8 +50,8 @@ pub fn rom_words_have_widths(c: &Circuit)
     ensures kept { (keep : List Bool) → known_fit (persistent_roms c.now.lines keep) (pick (keep_mask (cells_of c.now.lines) keep) (state_widths (cells_of c.now.lines))) ≡ true }
 {
     circuit_laws::circuits_have_widths(c);
-    circuit_laws::circuits_keep_widths(c);
     circuit_laws::circuits_keep_rom_words(c);
+    circuit_laws::rom_words_fit(c);
 }
 
 /// Parts that fit each other make a design that is lawful where its host is never attached.
