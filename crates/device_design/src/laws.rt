@@ -1,4 +1,4 @@
-//! Laws of devices, as functions that do nothing.
+//! Laws of devices and of their drivers, as functions that do nothing.
 ghost use Rattle.std.specs.Prelude.{◌≡◌, ℕ, List, [], Bool, true, false, length, slice_get, slice_index, slice_set, Some, None};
 ghost use Rattle.knox_words.specs.Bits.{Bits};
 ghost use Rattle.knox_words.specs.Lists.{Words, fit, fits, pick};

@@ -1,4 +1,4 @@
-//! Laws of drivers, as functions that change nothing.
+//! Laws of the moves of drivers, as functions that change nothing.
 ghost use Rattle.std.specs.Prelude.{◌≡◌};
 ghost use Rattle.knox_theory.specs.Design.{Config, Design, finish_tests};
 ghost use Rattle.driver_machine.specs.Left.{Left};
