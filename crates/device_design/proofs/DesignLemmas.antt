@@ -22,7 +22,7 @@ use Rattle.emu_machine.specs.Fits.{same_heads, indices_fit, fits_specification, 
 use Rattle.device_design.specs.Roms.{known_fit, rom_part}
 use Rattle.device_design.specs.Meaning.{head_args, head_result, persistent_roms, device_of, design_of}
 use Rattle.device_design.proofs.RomLemmas.{filled-agree, part-fits, fits-widths, fits-agree, known-pick, agree-pick, over, over-fit, kept-stay}
-use Rattle.cell_fields.specs.Fields.{name_cells}
+use Rattle.emu_machine.specs.Fields.{name_cells}
 use Rattle.device_design.proofs.AskingLemmas.{tick-asks-fit, spec-init}
 use Rattle.device_design.proofs.PowerLemmas.{power-fits, names-widths}
 

@@ -12,7 +12,7 @@ use Rattle.knox_lang.specs.WellFormed.{word_widths, local_widths, field_widths, 
 use Rattle.knox_lang.proofs.WidthLemmas.{and_first, and_second, funs-give}
 use Rattle.knox_lang.proofs.StmtLemmas.{stmts-keep}
 use Rattle.knox_lang.proofs.OperationLemmas.{no-answers, start-fit}
-use Rattle.cell_fields.specs.Fields.{same_index, same_field, cell_field, name_cells}
+use Rattle.emu_machine.specs.Fields.{same_index, same_field, cell_field, name_cells}
 use Rattle.emu_machine.specs.Emulator.{power_spaces, emulator_after_power}
 use Rattle.emu_machine.specs.Fits.{indices_fit}
 use Rattle.device_design.proofs.AskingLemmas.{init-fits}

@@ -6,9 +6,11 @@
 mod answer;
 mod device;
 mod emulator;
+mod fields;
 mod fits;
 mod state;
 
 pub use device::Device;
 pub use emulator::EmuRoom;
+pub use fields::{fields_of, is_cell, name_cells};
 pub use state::{EmuState, emu_power, emu_read, emu_tick};

@@ -9,7 +9,7 @@ use Rattle.knox_circuit.specs.declared.port.Cell.{Cell}
 use Rattle.knox_circuit.specs.Ports.{inputs_of, outputs_of, input_widths, output_widths}
 use Rattle.knox_circuit.specs.Circuit.{Circuit}
 use Rattle.knox_circuit.specs.Cells.{cells_of, noise_cells}
-use Rattle.cell_fields.specs.Fields.{cell_field}
+use Rattle.emu_machine.specs.Fields.{cell_field}
 use Rattle.knox_lang.specs.declared.expr.Expr.{Expr}
 use Rattle.knox_lang.specs.declared.expr.Expr.TheVariants.{Lit}
 use Rattle.knox_lang.specs.declared.expr.Space.TheVariants.{Own}

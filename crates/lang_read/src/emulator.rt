@@ -248,8 +248,8 @@ fn outside_of(
     Ok(Outside {
         ins: Items::from_slice(alloc, c.input_widths())?,
         outs: Items::from_slice(alloc, c.output_widths())?,
-        noise: cell_fields::fields_of(alloc, noise)?,
-        cells: cell_fields::fields_of(alloc, c.cells())?,
+        noise: emu_machine::fields_of(alloc, noise)?,
+        cells: emu_machine::fields_of(alloc, c.cells())?,
         ops: copied_ops(alloc, s.ops())?,
     })
 }

@@ -1,4 +1,4 @@
--- Cells of a circuit as fields. The project's own.
+-- Cells of a circuit as fields, so that a program names words of the circuit as it names its own.
 use Rattle.std.specs.Prelude.{ℕ, ◌==◌, ◌&&◌, List, [], ◌∷◌, Option, Some, None, Bool, true, false}
 use Rattle.std.specs.Str.{bytes_eq}
 use Rattle.knox_circuit.specs.declared.port.Cell.{Cell}

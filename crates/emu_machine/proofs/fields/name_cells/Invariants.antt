@@ -1,6 +1,6 @@
 use Rattle.std.proofs.Common.{◌≡◌, length}
-use Rattle.cell_fields.specs.Fields.{name_cells}
-use Rattle.cell_fields.proofs.fields.name_cells.Given as goal
+use Rattle.emu_machine.specs.Fields.{name_cells}
+use Rattle.emu_machine.proofs.fields.name_cells.Given as goal
 
 abbrev pub invariant-loop-field : goal.invariant-loop-field
 invariant-loop-field l = name_cells l.left l.right ≡ name_cells l.initial.left l.initial.right

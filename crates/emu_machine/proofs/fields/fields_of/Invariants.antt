@@ -1,6 +1,6 @@
 use Rattle.std.proofs.Common.{◌≡◌, take, map}
-use Rattle.cell_fields.specs.Fields.{cell_field}
-use Rattle.cell_fields.proofs.fields.fields_of.Given as goal
+use Rattle.emu_machine.specs.Fields.{cell_field}
+use Rattle.emu_machine.proofs.fields.fields_of.Given as goal
 
 abbrev pub invariant-loop-cell : goal.invariant-loop-cell
 invariant-loop-cell l = l.fields ≡ map cell_field (take l.cell-index l.cells)

@@ -1,6 +1,6 @@
 //! Cells of a circuit as fields.
 ghost use Rattle.std.specs.Prelude.{◌≡◌, map, IfOk};
-ghost use Rattle.cell_fields.specs.Fields.{cell_field, same_index, same_field, name_cells};
+ghost use Rattle.emu_machine.specs.Fields.{cell_field, same_index, same_field, name_cells};
 
 use knox_circuit::Cell;
 use knox_lang::Field;
