@@ -1,11 +1,8 @@
 -- What a put into a sink may answer, and what it leaves.
 use Rattle.std.specs.Prelude.{◌≡◌, ℕ, List, [], ◌∷◌, take, Option, Some, None, Result, Ok, Err, Bool, true, false}
 use Rattle.std.specs.Io.KnownBytes.{Appends, Keeps}
-use Rattle.knox_edge.specs.declared.sink.SinkEnd.{SinkEnd}
-use Rattle.knox_edge.specs.declared.sink.SinkEnd.TheVariants.{Failed, Memory}
-use Rattle.knox_edge.specs.Counts.{Rose, next_count}
-use Rattle.knox_edge.specs.Texts.{Bytes}
-use Rattle.knox_edge.specs.Shelf.{is_in}
+use Rattle.knox_edge.specs.declared.sink.SinkEnd.{SinkEnd, TheVariants.Failed, TheVariants.Memory}
+use Rattle.knox_edge.specs.{Counts.Rose, Counts.next_count, Texts.Bytes, Shelf.is_in}
 
 -- which puts fail, by their numbers from 1, and how many puts were counted
 pub record Failing : Type 0 where
@@ -55,5 +52,4 @@ Counted (b ∷ bs) r old new = (new ≡ record old { counted = next_count old.co
 abbrev pub CountedWhereTold : Bytes → Put → Option Failing → Option Failing → Type 0
 CountedWhereTold piece r (Some old) (Some new) = Counted piece r old new
 CountedWhereTold piece r None None = Unit {0}
-CountedWhereTold piece r (Some old) None = ⊥
-CountedWhereTold piece r None (Some new) = ⊥
+CountedWhereTold piece r old new = ⊥
