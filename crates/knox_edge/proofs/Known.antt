@@ -1,8 +1,6 @@
 -- What two steps do to known bytes, one after the other.
 use Rattle.std.proofs.Common.{◌∙◌, ◌≤◌, ◌+◌, ◌-◌, ap, sym, List, ◌++◌, ℕ, Option, length, take, drop, arith, subst, ◌≡◌}
-use Rattle.std.proofs.lemmas.Grind.{common_steps}
-use Rattle.std.proofs.Math.Seq.{take-add}
-use Rattle.std.specs.Io.KnownBytes.{Appends}
+use Rattle.std.{proofs.lemmas.Grind.common_steps, proofs.Math.Seq.take-add, specs.Io.KnownBytes.Appends}
 
 -- bytes that grow by xs and then by ys grow by both
 pub Appends-append : (a b c : Option (List ℕ)) (xs ys : List ℕ) → Appends a b xs → Appends b c ys → Appends a c (xs ++ ys)

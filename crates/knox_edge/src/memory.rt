@@ -120,11 +120,15 @@ impl Sink for MemSink {
         }
         self.count = self.count.saturating_add(1);
         if !is_one_of(self.fail.as_slice(), self.count) {
-            self.written.extend_from_slice(piece)?;
+            self.written
+                .extend_from_slice(piece)
+                .map_err(|_| SinkEnd::Memory)?;
             return Ok(());
         }
         let kept = &piece[..self.keep.min(piece.len())];
-        self.written.extend_from_slice(kept)?;
+        self.written
+            .extend_from_slice(kept)
+            .map_err(|_| SinkEnd::Memory)?;
         self.faults = self.faults.saturating_add(1);
         Err(SinkEnd::Failed)
     }

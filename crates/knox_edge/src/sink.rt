@@ -1,9 +1,7 @@
 //! Where bytes go, piece by piece.
 ghost use Rattle.std.specs.Prelude.{◌≡◌, IfSome, [], Ok, IsOk};
-ghost use Rattle.knox_edge.specs.declared.sink.SinkEnd.TheVariants.{Memory};
 ghost use Rattle.knox_edge.specs.Sink.{Sunk, Writes, KeepsFirst, CountsFault, CountedWhereTold};
 
-use std::alloc::AllocError;
 use thiserror::Error;
 
 /// Why a piece was not put.
@@ -15,14 +13,6 @@ pub enum SinkEnd {
     /// Memory ran out. This says nothing of the sink.
     #[error("memory ran out")]
     Memory,
-}
-
-impl From<AllocError> for SinkEnd {
-    ghost from_gives = { λ _ end. end ≡ Memory };
-
-    fn from(_e: AllocError) -> SinkEnd {
-        SinkEnd::Memory
-    }
 }
 
 /// Takes pieces of bytes.
