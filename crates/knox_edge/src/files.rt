@@ -73,8 +73,7 @@ impl<'a, R: Files> Shelf for FileShelf<'a, R> {
             self.history.faults = self.history.faults.saturating_add(1);
         }
         end?;
-        let place = self.history.give(name, bytes)?;
-        Ok(place)
+        Ok(self.history.give(name, bytes)?)
     }
 
     fn text(&self, i: usize) -> &[u8] {

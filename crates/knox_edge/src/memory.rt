@@ -69,8 +69,7 @@ impl Shelf for MemShelf {
         }
         let bytes = Vec::from_slice(self.history.alloc, bytes)?;
         self.history.taken = bytes.len() as u64;
-        let place = self.history.give(name, bytes)?;
-        Ok(place)
+        Ok(self.history.give(name, bytes)?)
     }
 
     fn text(&self, i: usize) -> &[u8] {
@@ -118,17 +117,14 @@ impl Sink for MemSink {
         if piece.is_empty() {
             return Ok(());
         }
+        let memory = |_| SinkEnd::Memory;
         self.count = self.count.saturating_add(1);
         if !is_one_of(self.fail.as_slice(), self.count) {
-            self.written
-                .extend_from_slice(piece)
-                .map_err(|_| SinkEnd::Memory)?;
+            self.written.extend_from_slice(piece).map_err(memory)?;
             return Ok(());
         }
         let kept = &piece[..self.keep.min(piece.len())];
-        self.written
-            .extend_from_slice(kept)
-            .map_err(|_| SinkEnd::Memory)?;
+        self.written.extend_from_slice(kept).map_err(memory)?;
         self.faults = self.faults.saturating_add(1);
         Err(SinkEnd::Failed)
     }

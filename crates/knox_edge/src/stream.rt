@@ -24,8 +24,7 @@ impl<W: Write> StreamSink<W> {
 /// Writes a piece to its end. A writer that fails, or takes nothing of bytes that are left, has taken
 /// a prefix.
 fn write_whole<W: Write>(writer: &mut W, piece: &[u8]) -> Result<(), SinkEnd>
-    ensures { MatchResult result
-        (λ _. Appends (W.contents writer.old) (W.contents writer.new) piece.now)
+    ensures { MatchResult result (λ _. Appends (W.contents writer.old) (W.contents writer.new) piece.now)
         (λ end. (end ≡ SinkEnd.Failed) × ((n : ℕ) × (n < length piece.now) × Appends (W.contents writer.old) (W.contents writer.new) (take n piece.now))) }
 {
     let mut at = 0;
