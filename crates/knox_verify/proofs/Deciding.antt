@@ -2,16 +2,12 @@
 use Rattle.std.proofs.Common.{◌≡◌, ℕ, zero, suc, ◌<◌, ◌≤◌, List, [], ◌∷◌, ◌++◌, Option, Some, None, Result, Ok, length, take, drop, slice_get, refl, sym, ap, subst, inl, inr, arith}
 use Rattle.std.proofs.lemmas.List.{take_all}
 use Rattle.knox_theory.proofs.{Agreeing.agree, Listed.safe-closed, Listed.closed-host, Listed.closed-wires, Ordering.closed-below}
-use Rattle.script_core.specs.declared.decide.Checked.{Checked}
 use Rattle.script_core.specs.declared.decide.Checked.TheVariants as checked
-use Rattle.script_core.specs.{Hints.host_of, Hints.script_of, Decisions.Checks, Runs.course_of, Runs.bits_of, Runs.hint_of}
-use Rattle.knox_verify.specs.declared.verdict.Verdict.{Verdict}
-use Rattle.knox_verify.specs.declared.verdict.Verdict.TheVariants.{Yes}
-use Rattle.knox_verify.specs.declared.verdict.VerifyFault.{VerifyFault}
+use Rattle.script_core.specs.{declared.decide.Checked.Checked, Hints.host_of, Hints.script_of, Decisions.Checks, Runs.course_of, Runs.bits_of, Runs.hint_of}
+use Rattle.knox_verify.specs.declared.verdict.{Verdict.Verdict, Verdict.TheVariants.Yes, VerifyFault.VerifyFault}
 use Rattle.knox_verify.specs.Words.{Agree, Closed, IsAmong, IsDesign, IsScript, Safe, Segment, segments, counted, design_of}
 use Rattle.knox_verify.specs.Judgements.{Parts, device, design, hints, HoldBefore, AllHold, Undecides, IsTooWide}
-use Rattle.knox_verify.specs.Meanings.{FiveTexts, Means}
-use Rattle.knox_verify.specs.Verdicts.{Decides}
+use Rattle.knox_verify.specs.{Meanings.FiveTexts, Meanings.Means, Verdicts.Decides}
 
 -- no choices falsify a hint of it, and it takes at most 20 bits
 abbrev pub Holds : Segment → Type 0

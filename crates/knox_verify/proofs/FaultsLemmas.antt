@@ -1,17 +1,13 @@
 -- Five texts mean at most one thing, or have one first fault and mean nothing.
-use Rattle.std.proofs.Common.{◌≡◌, ◌≤◌, ◌<◌, ◌⊎◌, inl, inr, ℕ, List, Bool, true, false, Result, Ok, Err, length, refl, sym, ◌∙◌, ap, subst, arith}
-use Rattle.std.specs.Result.{IfOk, IfErr}
+use Rattle.std.proofs.Common.{◌≡◌, ◌≤◌, ◌<◌, ◌⊎◌, inl, inr, ℕ, List, Bool, true, false, Result, Ok, Err, IfOk, IfErr, length, refl, sym, ◌∙◌, ap, subst, arith}
 use Rattle.btor_read.proofs.MeaningLemmas.{one-circuit, one-fault, faultless}
 use Rattle.knox_verify.specs.Words.{Place, start_of, end_of, Tree, MeansTrees, Bytes, limit, Circuit, SpecParts, DriverParts, EmuParts, ScriptParts, spec_text, driver_text, emulator_text, script_text, fits_device}
-use Rattle.knox_verify.specs.declared.verdict.{Letter.Letter, VerifyFault.VerifyFault, Verdict.Verdict}
-use Rattle.knox_verify.specs.declared.verdict.VerifyFault.TheVariants.{Text, NotYet, Memory}
-use Rattle.knox_verify.specs.declared.verdict.Letter.TheVariants.{C, S, D, E, H}
+use Rattle.knox_verify.specs.declared.verdict.Letter.{Letter, TheVariants.C, TheVariants.S, TheVariants.D, TheVariants.E, TheVariants.H}
 use Rattle.knox_verify.specs.declared.verdict.TextWhy.TheVariants as why
-use Rattle.knox_verify.specs.declared.verdict.Verdict.TheVariants.{Yes, Undecided, TooWide}
-use Rattle.knox_verify.specs.Judgements.{Parts, AllHold}
-use Rattle.knox_verify.specs.Meanings.{FiveTexts, MeansCircuit, Spells, Reads, Means}
+use Rattle.knox_verify.specs.declared.verdict.Verdict.{Verdict, TheVariants.Yes, TheVariants.Undecided, TheVariants.TooWide}
+use Rattle.knox_verify.specs.declared.verdict.VerifyFault.{VerifyFault, TheVariants.Text, TheVariants.NotYet, TheVariants.Memory}
+use Rattle.knox_verify.specs.{Judgements.Parts, Judgements.AllHold, Meanings.FiveTexts, Meanings.MeansCircuit, Meanings.Spells, Meanings.Reads, Meanings.Means, Verdicts.Decides}
 use Rattle.knox_verify.specs.Faults.{of_program, of_driver, of_script, TreesFault, TextFault, CircuitFault, Unless, Then, FirstFault, OrMemory}
-use Rattle.knox_verify.specs.Verdicts.{Decides}
 
 -- ---- one meaning, or one fault
 
@@ -55,12 +51,9 @@ then-one {A} {B} fault meaning next means one ones = record { same = λ y z p q.
     apart y f p (inl a) = one.apart p.0 f p.1 a
     apart y f p (inr a) = (ones a.0).apart y f (subst (λ x. means x y) (one.same p.0 a.0 p.1 a.1) p.2) a.2
 
-long-short : (a : ℕ) → limit < a → a ≤ limit → ⊥
-long-short a long short = omega (arith, long, short)
-
 trees-one : OneMeaning → (letter : Letter) (text : Bytes) → One (Spells text) (TreesFault letter text)
 trees-one one letter text =
-    unless-one _ _ (Text letter why.TooLong) (MeansTrees text) _ (long-short (length text)) (record { same = one text; told = λ f g a b. a.1 ∙ sym b.1; apart = λ ts f p a. a.0 ts p })
+    unless-one _ _ (Text letter why.TooLong) (MeansTrees text) _ (λ long short. omega (arith, long, short)) (record { same = one text; told = λ f g a b. a.1 ∙ sym b.1; apart = λ ts f p a. a.0 ts p })
 
 read-one : {A F : Type 0} (told : F → VerifyFault) (r : Result A F) → One (λ x. r ≡ Ok x) (λ f. (g : F) × (r ≡ Err g) × (f ≡ told g))
 read-one told r = record { same = λ x y p q. cc; told = λ f g a b. cc; apart = λ x f p a. absurd cc }
@@ -69,7 +62,7 @@ text-one : {A F : Type 0} → OneMeaning → (letter : Letter) (told : F → Ver
 text-one one letter told reading text = then-one _ _ _ _ (trees-one one letter text) (λ list. read-one told (reading (end_of (start_of text)) list))
 
 circuit-one : (c : Bytes) → One (MeansCircuit c) (CircuitFault c)
-circuit-one c = unless-one _ _ (Text C why.TooLong) _ _ (long-short (length c)) (record {
+circuit-one c = unless-one _ _ (Text C why.TooLong) _ _ (λ long short. omega (arith, long, short)) (record {
   same = one-circuit c;
   told = λ f g a b. a.2 ∙ (ap (λ x. Text C (why.Circuit x)) (one-fault c a.0 b.0 a.1 b.1) ∙ sym b.2);
   apart = λ x f m a. faultless c x a.0 m a.1;
@@ -78,9 +71,6 @@ circuit-one c = unless-one _ _ (Text C why.TooLong) _ _ (long-short (length c)) 
 -- of what is made of what is meant
 made-one : {A B : Type 0} (h : A → B) (meaning : A → Type 0) (fault : VerifyFault → Type 0) → One meaning fault → One (λ y. (x : A) × meaning x × (y ≡ h x)) fault
 made-one h meaning fault one = record { same = λ y z p q. p.2 ∙ (ap h (one.same p.0 q.0 p.1 q.1) ∙ sym q.2); told = one.told; apart = λ y f p a. one.apart p.0 f p.1 a }
-
-true-false : (b : Bool) → b ≡ false → b ≡ true → ⊥
-true-false b e f = absurd cc
 
 -- the parts of five texts, one behind the other
 abbrev Meant : FiveTexts → Parts → Type 0
@@ -104,7 +94,7 @@ parts-one one t =
     then-one _ _ _ _ (text-one one S of_program spec_text t.s) (λ spec.
     then-one _ _ _ _ (text-one one D of_driver (driver_text circuit spec) t.d) (λ driver.
     then-one _ _ _ _ (text-one one E of_program (emulator_text circuit spec driver) t.e) (λ emulator.
-    unless-one _ _ NotYet _ _ (true-false (fits_device circuit spec driver emulator))
+    unless-one _ _ NotYet _ _ (λ misfits fits. cc)
     (made-one (λ script. record { circuit = circuit; spec = spec; driver = driver; emulator = emulator; script = script }) _ _ (text-one one H of_script (script_text circuit spec driver emulator) t.h))))))
 
 pub five-one : OneMeaning → (t : FiveTexts) → One (Means t) (FirstFault t)

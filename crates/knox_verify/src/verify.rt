@@ -1,11 +1,7 @@
 //! The verifier: five texts get their meaning, and then the script is decided segment by segment.
 ghost use Rattle.std.specs.Prelude.{◌≡◌, ◌⊎◌, length, Ok, Err, IfOk, IfErr};
-ghost use Rattle.knox_verify.specs.Words.{Agree, ops_of};
-ghost use Rattle.knox_verify.specs.declared.verdict.VerifyFault.{VerifyFault};
 ghost use Rattle.knox_verify.specs.Judgements.{Parts, parts_of, device, AllHold};
-ghost use Rattle.knox_verify.specs.Meanings.{five, Means};
-ghost use Rattle.knox_verify.specs.Faults.{FirstFault, OrMemory};
-ghost use Rattle.knox_verify.specs.Verdicts.{Decides};
+ghost use Rattle.knox_verify.specs.{Words.Agree, Words.ops_of, declared.verdict.VerifyFault.VerifyFault, Meanings.five, Meanings.Means, Faults.FirstFault, Faults.OrMemory, Verdicts.Decides};
 
 use crate::meaning::{device_of, script_of};
 use crate::verdict::{Verdict, VerifyFault};
