@@ -1,25 +1,13 @@
 -- What two steps do to known bytes, one after the other.
-use Rattle.std.proofs.Common.{◌≡◌, ◌∙◌, ◌≤◌, ◌+◌, ◌-◌, ap, sym, List, ◌++◌, ℕ, Option, Some, None, length, take, drop, append_assoc, arith}
-use Rattle.std.proofs.lemmas.Grind.{common_steps}
-use Rattle.std.proofs.Math.Seq.{take-add}
-use Rattle.std.specs.Io.KnownBytes.{Appends, Consumes}
+use Rattle.std.proofs.Common.{◌∙◌, ◌≤◌, ◌+◌, ◌-◌, ap, sym, List, ◌++◌, ℕ, Option, length, take, drop, arith, subst, ◌≡◌}
+use Rattle.std.{proofs.lemmas.Grind.common_steps, proofs.Math.Seq.take-add, specs.Io.KnownBytes.Appends}
 
 -- bytes that grow by xs and then by ys grow by both
 pub Appends-append : (a b c : Option (List ℕ)) (xs ys : List ℕ) → Appends a b xs → Appends b c ys → Appends a c (xs ++ ys)
-Appends-append None b c xs ys p q = tt
-Appends-append (Some a) None c xs ys p q = absurd p
-Appends-append (Some a) (Some b) None xs ys p q = absurd q
-Appends-append (Some a) (Some b) (Some c) xs ys p q = q ∙ ap (λ z. z ++ ys) p ∙ append_assoc a xs ys
+Appends-append a b c xs ys p q = grind (arith, common_steps)
 
--- bytes that lose xs and then ys lose both
-pub Consumes-append : (a b c : Option (List ℕ)) (xs ys : List ℕ) → Consumes a b xs → Consumes b c ys → Consumes a c (xs ++ ys)
-Consumes-append None b c xs ys p q = tt
-Consumes-append (Some a) None c xs ys p q = absurd p
-Consumes-append (Some a) (Some b) None xs ys p q = absurd q
-Consumes-append (Some a) (Some b) (Some c) xs ys p q = p ∙ ap (λ z. xs ++ z) q ∙ sym (append_assoc xs ys c)
-
--- the first n bytes past a place follow those before it
-pub next_bytes : (xs : List ℕ) (at n : ℕ) → at ≤ length xs → take (at + n) xs ≡ take at xs ++ take n (take (length xs - at) (drop at xs))
-next_bytes xs at n h =
+-- bytes that grow by those before a place, and by the first n past it
+pub next-bytes : (a b c : Option (List ℕ)) (xs : List ℕ) (at n : ℕ) → at ≤ length xs → Appends a b (take at xs) → Appends b c (take n (take (length xs - at) (drop at xs))) → Appends a c (take (at + n) xs)
+next-bytes a b c xs at n h p q =
     let whole : take (length xs - at) (drop at xs) ≡ drop at xs = grind (arith, common_steps) in
-    take-add at n xs ∙ ap (λ z. take at xs ++ take n z) (sym whole)
+    subst (Appends a c) (sym (take-add at n xs ∙ ap (λ z. take at xs ++ take n z) (sym whole))) (Appends-append a b c _ _ p q)

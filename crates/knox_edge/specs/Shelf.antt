@@ -1,11 +1,8 @@
 -- What a read of a shelf may answer, and what it leaves.
-use Rattle.std.specs.Prelude.{◌≡◌, ℕ, ◌+◌, ◌≤◌, List, [], ◌∷◌, ◌++◌, length, Option, Some, None, Result, Ok, Err, Bool, if◌then◌else◌, nat_lt, ◌==◌, ◌⊎◌}
-use Rattle.std.specs.Str.{bytes_eq}
-use Rattle.std.specs.List.{list_any}
-use Rattle.knox_edge.specs.declared.shelf.ShelfEnd.{ShelfEnd}
-use Rattle.knox_edge.specs.declared.shelf.ShelfEnd.TheVariants.{Failed, TooLong, Memory}
-use Rattle.knox_edge.specs.Counts.{Rose}
-use Rattle.knox_edge.specs.Texts.{Bytes, Named, limit}
+use Rattle.std.specs.Prelude.{◌≡◌, ℕ, ◌+◌, ◌≤◌, List, [], ◌∷◌, ◌++◌, length, Option, Some, None, Result, Ok, Err, Bool, if◌then◌else◌, nat_lt, ◌==◌, ◌⊎◌, MatchResult}
+use Rattle.std.specs.{Str.bytes_eq, List.list_any}
+use Rattle.knox_edge.specs.declared.shelf.ShelfEnd.{ShelfEnd, TheVariants.Failed, TheVariants.TooLong, TheVariants.Memory}
+use Rattle.knox_edge.specs.{Counts.Rose, Texts.Bytes, Texts.Named, Texts.limit}
 
 -- what a shelf holds, and which of its reads fail, by their numbers from 1
 pub record Holding : Type 0 where
@@ -32,7 +29,7 @@ answer_of h number name = if is_in h.failing number then Err Failed else within_
 
 -- a read's answer is the one of what is held, but for want of memory
 abbrev pub AnswersAs : Result Bytes ShelfEnd → Bytes → Result ℕ ShelfEnd → List Named → List Named → Type 0
-AnswersAs told name (Ok place) old new = (bytes : Bytes) × (told ≡ Ok bytes) × (new ≡ old ++ (name, bytes) ∷ [])
+AnswersAs told name (Ok place) old new = MatchResult told (λ bytes. new ≡ old ++ (name, bytes) ∷ []) (λ _. ⊥)
 AnswersAs told name (Err Memory) old new = Unit {0}
 AnswersAs told name (Err end) old new = told ≡ Err end
 

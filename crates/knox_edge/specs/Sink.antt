@@ -1,11 +1,8 @@
 -- What a put into a sink may answer, and what it leaves.
-use Rattle.std.specs.Prelude.{◌≡◌, ℕ, List, [], ◌∷◌, take, Option, Some, None, Result, Ok, Err, Bool, true, false}
+use Rattle.std.specs.Prelude.{◌≡◌, ℕ, List, [], ◌∷◌, take, Option, Some, None, Result, Ok, Err, Bool, if◌then◌else◌, ◌⊎◌}
 use Rattle.std.specs.Io.KnownBytes.{Appends, Keeps}
-use Rattle.knox_edge.specs.declared.sink.SinkEnd.{SinkEnd}
-use Rattle.knox_edge.specs.declared.sink.SinkEnd.TheVariants.{Failed, Memory}
-use Rattle.knox_edge.specs.Counts.{Rose, next_count}
-use Rattle.knox_edge.specs.Texts.{Bytes}
-use Rattle.knox_edge.specs.Shelf.{is_in}
+use Rattle.knox_edge.specs.declared.sink.SinkEnd.{SinkEnd, TheVariants.Failed, TheVariants.Memory}
+use Rattle.knox_edge.specs.{Counts.Rose, Counts.next_count, Texts.Bytes, Shelf.is_in}
 
 -- which puts fail, by their numbers from 1, and how many puts were counted
 pub record Failing : Type 0 where
@@ -42,9 +39,7 @@ CountsFault _ before now = now ≡ before
 
 -- a put fails exactly where its number is one of these, but for want of memory
 abbrev pub FailsAt : Bool → Put → Type 0
-FailsAt stands (Ok _) = stands ≡ false
-FailsAt stands (Err Failed) = stands ≡ true
-FailsAt stands (Err Memory) = Unit {0}
+FailsAt stands r = (r ≡ Err Memory) ⊎ (r ≡ (if stands then Err Failed else Ok tt))
 
 -- where it is told: every put of a piece with bytes is counted, and fails exactly where its number is one of those that fail
 abbrev pub Counted : Bytes → Put → Failing → Failing → Type 0
@@ -55,5 +50,4 @@ Counted (b ∷ bs) r old new = (new ≡ record old { counted = next_count old.co
 abbrev pub CountedWhereTold : Bytes → Put → Option Failing → Option Failing → Type 0
 CountedWhereTold piece r (Some old) (Some new) = Counted piece r old new
 CountedWhereTold piece r None None = Unit {0}
-CountedWhereTold piece r (Some old) None = ⊥
-CountedWhereTold piece r None (Some new) = ⊥
+CountedWhereTold piece r old new = ⊥

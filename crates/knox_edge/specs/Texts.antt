@@ -1,7 +1,7 @@
 -- Bytes, texts with their names, and what a shelf keeps of its reads.
 use Rattle.std.specs.Prelude.{ℕ, List, [], map}
-use Rattle.std.specs.declared.vec.Vec.{Vec}
-use Rattle.std.specs.declared.alloc.Global.{Global}
+use Rattle.std.specs.declared.{vec.Vec.Vec, alloc.Global.Global}
+use Rattle.knox_edge.specs.declared.history.History.{History}
 
 abbrev pub Bytes : Type 0
 Bytes = List ℕ
@@ -33,3 +33,7 @@ bytes_of vs = map (λ v. v.items) vs
 -- the names and bytes of some pairs of vectors
 abbrev pub named_of : List (Vec ℕ Global × Vec ℕ Global) → List Named
 named_of vs = map (λ v. (v.0.items, v.1.items)) vs
+
+-- what a shelf has kept
+abbrev pub history_of : History → Reads
+history_of h = record { names = bytes_of h.names.items; given = named_of h.given.items; taken = h.taken; faults = h.faults }

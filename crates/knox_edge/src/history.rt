@@ -1,34 +1,23 @@
 //! What a shelf keeps of its reads.
-ghost use Rattle.std.specs.Prelude.{◌≡◌, ◌+◌, ◌<◌, [], ◌∷◌, ◌++◌, length, Some, slice_get, option_map, OnOk, OnErr, IfOk, IfErr};
-ghost use Rattle.knox_edge.specs.Counts.{next_count};
-ghost use Rattle.knox_edge.specs.Texts.{unread};
+ghost use Rattle.std.specs.Prelude.{◌≡◌, [], ◌∷◌, ◌++◌, length, OnOk, OnErr, IfOk};
+ghost use Rattle.knox_edge.specs.Texts.{unread, history_of};
 
-use crate::shelf::ShelfEnd;
-use std::alloc::Global;
-use std::marker::Model;
+use std::alloc::{AllocError, Global};
 
 /// The names that were asked, the texts that were given, and two counts.
 #[derive(Drop)]
 pub struct History {
-    alloc: Global,
-    names: Vec<Vec<u8>>,
-    given: Vec<(Vec<u8>, Vec<u8>)>,
-    taken: u64,
-    faults: u64,
-}
-
-impl Model for History {
-    ghost use Rattle.knox_edge.specs.Texts.{Reads, bytes_of, named_of};
-
-    ghost Value = { Reads };
-
-    ghost view = { λ h. record { names = bytes_of h.names.items; given = named_of h.given.items; taken = h.taken; faults = h.faults } };
+    pub alloc: Global,
+    pub names: Vec<Vec<u8>>,
+    pub given: Vec<(Vec<u8>, Vec<u8>)>,
+    pub taken: u64,
+    pub faults: u64,
 }
 
 impl History {
     /// No reads.
     pub fn new(alloc: Global) -> History
-        ensures { result ≡ unread }
+        ensures { history_of result ≡ unread }
     {
         History {
             alloc,
@@ -39,66 +28,27 @@ impl History {
         }
     }
 
-    /// How many names were asked.
-    pub fn asked(&self) -> usize
-        ensures { result ≡ length self.now.names }
-    {
-        self.names.len()
-    }
-
-    /// Keeps a name that is asked, and begins to count the bytes that are taken. `Memory` leaves
+    /// Keeps a name that is asked, and begins to count the bytes that are taken. Want of memory leaves
     /// everything as it was.
-    pub fn ask(&mut self, name: &[u8]) -> Result<(), ShelfEnd>
-        ensures ok { OnOk result (self.new ≡ record self.old { names = self.old.names ++ name.now ∷ []; taken = 0 }) }
-        ensures err { OnErr result (self.new ≡ self.old) }
-        ensures memory { IfErr result (λ end. end ≡ ShelfEnd.Memory) }
+    pub fn ask(&mut self, name: &[u8]) -> Result<(), AllocError>
+        ensures ok { OnOk result (history_of self.new ≡ record (history_of self.old) { names = (history_of self.old).names ++ name.now ∷ []; taken = 0 }) }
+        ensures err { OnErr result (history_of self.new ≡ history_of self.old) }
     {
-        let Ok(name) = Vec::from_slice(self.alloc, name) else {
-            return Err(ShelfEnd::Memory);
-        };
-        if self.names.push(name).is_err() {
-            return Err(ShelfEnd::Memory);
-        }
+        let name = Vec::from_slice(self.alloc, name)?;
+        self.names.push(name)?;
         self.taken = 0;
         Ok(())
     }
 
-    /// Notes how many bytes the read took.
-    pub fn take(&mut self, count: u64)
-        ensures { self.new ≡ record self.old { taken = count } }
-    {
-        self.taken = count;
-    }
-
-    /// Counts a fault.
-    pub fn fail(&mut self)
-        ensures { self.new ≡ record self.old { faults = next_count self.old.faults } }
-    {
-        self.faults = self.faults.saturating_add(1);
-    }
-
-    /// Keeps a text that is given, and answers its place. `Memory` leaves everything as it was.
-    pub fn give(&mut self, name: &[u8], bytes: Vec<u8>) -> Result<usize, ShelfEnd>
-        ensures place { IfOk result (λ place. place ≡ length self.old.given) }
-        ensures ok { OnOk result (self.new ≡ record self.old { given = self.old.given ++ (name.now, bytes.items) ∷ [] }) }
-        ensures err { OnErr result (self.new ≡ self.old) }
-        ensures memory { IfErr result (λ end. end ≡ ShelfEnd.Memory) }
+    /// Keeps a text that is given, and answers its place. Want of memory leaves everything as it was.
+    pub fn give(&mut self, name: &[u8], bytes: Vec<u8>) -> Result<usize, AllocError>
+        ensures place { IfOk result (λ place. place ≡ length (history_of self.old).given) }
+        ensures ok { OnOk result (history_of self.new ≡ record (history_of self.old) { given = (history_of self.old).given ++ (name.now, bytes.items) ∷ [] }) }
+        ensures err { OnErr result (history_of self.new ≡ history_of self.old) }
     {
         let place = self.given.len();
-        let Ok(name) = Vec::from_slice(self.alloc, name) else {
-            return Err(ShelfEnd::Memory);
-        };
-        match self.given.push((name, bytes)) {
-            Ok(()) => Ok(place),
-            Err(_) => Err(ShelfEnd::Memory),
-        }
-    }
-
-    /// The bytes of a text that was given.
-    pub fn text(&self, i: usize) -> &[u8]
-        requires { i < length self.now.given }
-        ensures { option_map (λ e. e.1) (slice_get self.now.given i) ≡ Some result.now }
-    {
-        self.given[i].1.as_slice()
+        let name = Vec::from_slice(self.alloc, name)?;
+        self.given.push((name, bytes))?;
+        Ok(place)
     }
 }

@@ -11,6 +11,6 @@ mod stream;
 
 pub use files::FileShelf;
 pub use memory::{MemShelf, MemSink};
-pub use shelf::{Shelf, ShelfEnd};
+pub use shelf::{LIMIT, Shelf, ShelfEnd};
 pub use sink::{Sink, SinkEnd};
 pub use stream::StreamSink;

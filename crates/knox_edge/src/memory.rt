@@ -1,23 +1,17 @@
 //! A shelf and a sink in memory, whose reads and puts fail where they are told to.
-ghost use Rattle.std.specs.Prelude.{◌≡◌, [], Some, option_map, length, take};
-ghost use Rattle.knox_edge.specs.Texts.{unread, bytes_of, named_of};
-ghost use Rattle.knox_edge.specs.Shelf.{Holding, entry_of, is_in};
-ghost use Rattle.knox_edge.specs.Sink.{Failing};
+ghost use Rattle.std.specs.Prelude.{◌≡◌, [], Some, option_map};
+ghost use Rattle.knox_edge.specs.{Texts.unread, Texts.named_of, Texts.history_of, Shelf.entry_of, Shelf.is_in};
 
 use crate::history::History;
-use crate::shelf::{Shelf, ShelfEnd};
+use crate::shelf::{LIMIT, Shelf, ShelfEnd};
 use crate::sink::{Sink, SinkEnd};
 use std::alloc::Global;
-
-/// How many bytes a text may have.
-const LIMIT: usize = 67_108_864;
 
 /// Texts in memory. The reads whose numbers, from 1, stand in `fail` fail.
 #[derive(Drop)]
 pub struct MemShelf {
     held: Vec<(Vec<u8>, Vec<u8>)>,
     fail: Vec<u64>,
-    alloc: Global,
     history: History,
 }
 
@@ -30,7 +24,6 @@ impl MemShelf {
         MemShelf {
             held,
             fail,
-            alloc,
             history: History::new(alloc),
         }
     }
@@ -56,34 +49,31 @@ fn is_one_of(numbers: &[u64], number: u64) -> bool
 }
 
 impl Shelf for MemShelf {
-    ghost history = { λ s. s.history };
+    ghost history = { λ s. history_of s.history };
 
     ghost holds = { λ s. Some (record { entries = named_of s.held.items; failing = s.fail.items }) };
 
     fn read(&mut self, name: &[u8]) -> Result<usize, ShelfEnd> {
         self.history.ask(name)?;
-        if is_one_of(self.fail.as_slice(), self.history.asked() as u64) {
-            self.history.fail();
-            return Err(ShelfEnd::Failed);
-        }
-        let Some(bytes) = entry(self.held.as_slice(), name) else {
-            self.history.fail();
-            return Err(ShelfEnd::Failed);
+        let number = self.history.names.len() as u64;
+        let bytes = match entry(self.held.as_slice(), name) {
+            Some(bytes) if !is_one_of(self.fail.as_slice(), number) => bytes,
+            _ => {
+                self.history.faults = self.history.faults.saturating_add(1);
+                return Err(ShelfEnd::Failed);
+            }
         };
         if bytes.len() > LIMIT {
-            self.history.take(LIMIT as u64 + 1);
+            self.history.taken = LIMIT as u64 + 1;
             return Err(ShelfEnd::TooLong);
         }
-        let Ok(bytes) = Vec::from_slice(self.alloc, bytes) else {
-            return Err(ShelfEnd::Memory);
-        };
-        self.history.take(bytes.len() as u64);
-        let place = self.history.give(name, bytes)?;
-        Ok(place)
+        let bytes = Vec::from_slice(self.history.alloc, bytes)?;
+        self.history.taken = bytes.len() as u64;
+        Ok(self.history.give(name, bytes)?)
     }
 
     fn text(&self, i: usize) -> &[u8] {
-        self.history.text(i)
+        self.history.given[i].1.as_slice()
     }
 }
 
@@ -120,17 +110,6 @@ impl MemSink {
     }
 }
 
-/// The first bytes of a piece, this many or all.
-fn first(piece: &[u8], count: usize) -> &[u8]
-    ensures { result.now ≡ take count piece.now }
-{
-    if count < piece.len() {
-        &piece[..count]
-    } else {
-        piece
-    }
-}
-
 impl Sink for MemSink {
     ghost told = { λ s. record { written = Some s.written.items; faults = s.faults; fails = Some (record { numbers = s.fail.items; counted = s.count }); keeps = Some s.keep } };
 
@@ -138,18 +117,15 @@ impl Sink for MemSink {
         if piece.is_empty() {
             return Ok(());
         }
+        let memory = |_| SinkEnd::Memory;
         self.count = self.count.saturating_add(1);
-        if is_one_of(self.fail.as_slice(), self.count) {
-            let kept = first(piece, self.keep);
-            if self.written.extend_from_slice(kept).is_err() {
-                return Err(SinkEnd::Memory);
-            }
-            self.faults = self.faults.saturating_add(1);
-            return Err(SinkEnd::Failed);
+        if !is_one_of(self.fail.as_slice(), self.count) {
+            self.written.extend_from_slice(piece).map_err(memory)?;
+            return Ok(());
         }
-        match self.written.extend_from_slice(piece) {
-            Ok(()) => Ok(()),
-            Err(_) => Err(SinkEnd::Memory),
-        }
+        let kept = &piece[..self.keep.min(piece.len())];
+        self.written.extend_from_slice(kept).map_err(memory)?;
+        self.faults = self.faults.saturating_add(1);
+        Err(SinkEnd::Failed)
     }
 }

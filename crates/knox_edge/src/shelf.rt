@@ -1,9 +1,13 @@
 //! Where texts come from, by name.
 ghost use Rattle.std.specs.Prelude.{◌≡◌, ◌+◌, ◌<◌, length, Option, Some, slice_get, IfSome, option_map};
-ghost use Rattle.knox_edge.specs.Texts.{Reads};
+ghost use Rattle.knox_edge.specs.{Texts.Reads, declared.shelf.ShelfEnd.TheVariants.Memory};
 ghost use Rattle.knox_edge.specs.Shelf.{Holding, answer_of, AnswersAs, Gives, Asks, CountsFault, TookTooMuch};
 
+use std::alloc::AllocError;
 use thiserror::Error;
+
+/// How many bytes a text may have.
+pub const LIMIT: usize = 67_108_864;
 
 /// Why a read gave no text.
 #[derive(Clone, Copy, Debug, PartialEq, Eq, Error)]
@@ -17,6 +21,14 @@ pub enum ShelfEnd {
     /// Memory ran out. This says nothing of the text.
     #[error("memory ran out")]
     Memory,
+}
+
+impl From<AllocError> for ShelfEnd {
+    ghost from_gives = { λ _ end. end ≡ Memory };
+
+    fn from(_e: AllocError) -> ShelfEnd {
+        ShelfEnd::Memory
+    }
 }
 
 /// Texts by name. A shelf keeps every name that was asked and every text that it gave.
@@ -34,9 +46,7 @@ pub trait Shelf {
         ensures faults { CountsFault result (history self.old).faults (history self.new).faults }
         ensures too_long { TookTooMuch result (history self.new).taken }
         ensures holds { holds self.new ≡ holds self.old }
-        ensures told { IfSome (holds self.old) (λ h.
-            let told = answer_of h (length (history self.old).names + 1) name.now in
-            AnswersAs told name.now result (history self.old).given (history self.new).given) };
+        ensures told { IfSome (holds self.old) (λ h. AnswersAs (answer_of h (length (history self.old).names + 1) name.now) name.now result (history self.old).given (history self.new).given) };
 
     /// The bytes of a text that was given, by its place.
     fn text(&self, i: usize) -> &[u8]

@@ -21,20 +21,16 @@ impl<W: Write> StreamSink<W> {
     }
 }
 
-/// A writer failed, or took nothing of bytes that were left.
-#[derive(Clone, Copy, Debug, PartialEq, Eq)]
-struct Stopped;
-
-/// Writes a piece to its end. A writer that stops before has taken a prefix.
-fn write_whole<W: Write>(writer: &mut W, piece: &[u8]) -> Result<(), Stopped>
-    ensures { MatchResult result
-        (λ _. Appends (W.contents writer.old) (W.contents writer.new) piece.now)
-        (λ _. (n : ℕ) × (n < length piece.now) × Appends (W.contents writer.old) (W.contents writer.new) (take n piece.now)) }
+/// Writes a piece to its end. A writer that fails, or takes nothing of bytes that are left, has taken
+/// a prefix.
+fn write_whole<W: Write>(writer: &mut W, piece: &[u8]) -> Result<(), SinkEnd>
+    ensures { MatchResult result (λ _. Appends (W.contents writer.old) (W.contents writer.new) piece.now)
+        (λ end. (end ≡ SinkEnd.Failed) × ((n : ℕ) × (n < length piece.now) × Appends (W.contents writer.old) (W.contents writer.new) (take n piece.now))) }
 {
     let mut at = 0;
     while at < piece.len() {
         match writer.write(&piece[at..]) {
-            Ok(0) | Err(_) => return Err(Stopped),
+            Ok(0) | Err(_) => return Err(SinkEnd::Failed),
             Ok(count) => at += count,
         }
     }
@@ -45,12 +41,10 @@ impl<W: Write> Sink for StreamSink<W> {
     ghost told = { λ s. record { written = W.contents s.writer; faults = s.faults; fails = None; keeps = None } };
 
     fn put(&mut self, piece: &[u8]) -> Result<(), SinkEnd> {
-        match write_whole(&mut self.writer, piece) {
-            Ok(()) => Ok(()),
-            Err(Stopped) => {
-                self.faults = self.faults.saturating_add(1);
-                Err(SinkEnd::Failed)
-            }
+        let end = write_whole(&mut self.writer, piece);
+        if end.is_err() {
+            self.faults = self.faults.saturating_add(1);
         }
+        end
     }
 }

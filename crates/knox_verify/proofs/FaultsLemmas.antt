@@ -1,202 +1,133 @@
--- The first fault of five texts is one, and none of texts that mean something.
-use Rattle.std.proofs.Common.{◌≡◌, ◌≤◌, ◌<◌, ◌⊎◌, inl, inr, ℕ, List, Bool, true, false, Result, Ok, Err, length, refl, sym, ◌∙◌, ap, subst, arith}
-use Rattle.std.specs.Result.{IfOk, IfErr}
-use Rattle.knox_text.specs.declared.place.Place.{Place}
-use Rattle.knox_text.specs.Places.{start_of, end_of}
-use Rattle.knox_sexpr.specs.declared.tree.Tree.{Tree}
-use Rattle.knox_sexpr.specs.Grammar as trees
-use Rattle.knox_sexpr.specs.declared.fault.SexprFault.{SexprFault}
-use Rattle.knox_sexpr.specs.declared.fault.SexprFault.TheVariants as tree
-use Rattle.knox_edge.specs.Texts.{Bytes, limit}
-use Rattle.knox_circuit.specs.Circuit.{Circuit}
-use Rattle.knox_lang.specs.declared.parts.SpecParts.{SpecParts}
-use Rattle.knox_lang.specs.declared.parts.DriverParts.{DriverParts}
-use Rattle.knox_lang.specs.declared.parts.EmuParts.{EmuParts}
-use Rattle.btor_read.proofs.MeaningLemmas.{one-fault, faultless}
-use Rattle.lang_read.specs.Specifications.{spec_text}
-use Rattle.lang_read.specs.Drivers.{driver_text}
-use Rattle.lang_read.specs.Emulators.{emulator_text}
-use Rattle.script_read.specs.Scripts.{script_text}
-use Rattle.emu_machine.specs.Fits.{fits_device}
-use Rattle.knox_verify.specs.declared.verdict.VerifyFault.{VerifyFault}
-use Rattle.knox_verify.specs.declared.verdict.VerifyFault.TheVariants.{Text, NotYet, Memory}
-use Rattle.knox_verify.specs.declared.verdict.Letter.{Letter}
-use Rattle.knox_verify.specs.declared.verdict.Letter.TheVariants.{C, S, D, E, H}
+-- Five texts mean at most one thing, or have one first fault and mean nothing.
+use Rattle.std.proofs.Common.{◌≡◌, ◌≤◌, ◌<◌, ◌⊎◌, inl, inr, ℕ, List, Bool, true, false, Result, Ok, Err, IfOk, IfErr, length, refl, sym, ◌∙◌, ap, subst, arith}
+use Rattle.btor_read.proofs.MeaningLemmas.{one-circuit, one-fault, faultless}
+use Rattle.knox_verify.specs.Words.{Place, start_of, end_of, Tree, MeansTrees, Bytes, limit, Circuit, SpecParts, DriverParts, EmuParts, ScriptParts, spec_text, driver_text, emulator_text, script_text, fits_device}
+use Rattle.knox_verify.specs.declared.verdict.Letter.{Letter, TheVariants.C, TheVariants.S, TheVariants.D, TheVariants.E, TheVariants.H}
 use Rattle.knox_verify.specs.declared.verdict.TextWhy.TheVariants as why
-use Rattle.knox_verify.specs.Judgements.{Parts, AllHold}
-use Rattle.knox_verify.specs.Meanings.{FiveTexts, MeansCircuit, Reads, MeansDevice, Means}
-use Rattle.knox_verify.specs.Faults.{of_trees, of_program, of_driver, of_script, TreesFault, Refuses, TextFault, CircuitFault, Then, HintsFault, FirstFault, OrMemory}
-use Rattle.knox_verify.specs.declared.verdict.Verdict.{Verdict}
-use Rattle.knox_verify.specs.declared.verdict.Verdict.TheVariants.{Yes, Undecided, TooWide}
-use Rattle.knox_verify.specs.Verdicts.{Decides}
-use Rattle.knox_verify.proofs.MeaningsLemmas.{OneMeaning, reads-one, circuit-one, means-one}
+use Rattle.knox_verify.specs.declared.verdict.Verdict.{Verdict, TheVariants.Yes, TheVariants.Undecided, TheVariants.TooWide}
+use Rattle.knox_verify.specs.declared.verdict.VerifyFault.{VerifyFault, TheVariants.Text, TheVariants.NotYet, TheVariants.Memory}
+use Rattle.knox_verify.specs.{Judgements.Parts, Judgements.AllHold, Meanings.FiveTexts, Meanings.MeansCircuit, Meanings.Spells, Meanings.Reads, Meanings.Means, Verdicts.Decides}
+use Rattle.knox_verify.specs.Faults.{of_program, of_driver, of_script, TreesFault, TextFault, CircuitFault, Unless, Then, FirstFault, OrMemory}
 
--- ---- one fault, and none of what means something
+-- ---- one meaning, or one fault
 
-abbrev pub One : (VerifyFault → Type 0) → Type 0
-One fault = (f g : VerifyFault) → fault f → fault g → f ≡ g
+-- a text means at most one list of trees
+abbrev pub OneMeaning : Type 0
+OneMeaning = (text : Bytes) (a b : List Tree) → MeansTrees text a → MeansTrees text b → a ≡ b
 
-long-short : {G : Type 0} (a : ℕ) → limit < a → a ≤ limit → G
-long-short a long short = absurd (omega (arith, long, short))
+-- at most one thing is meant, or one fault is there and nothing is meant
+pub record One {A : Type 0} (meaning : A → Type 0) (fault : VerifyFault → Type 0) : Type 0 where
+  pub same : (x y : A) → meaning x → meaning y → x ≡ y
+  pub told : (f g : VerifyFault) → fault f → fault g → f ≡ g
+  pub apart : (x : A) (f : VerifyFault) → meaning x → fault f → ⊥
 
-ok-err : {A F G : Type 0} (x : A) (f : F) (r : Result A F) → r ≡ Ok x → r ≡ Err f → G
-ok-err x f r e k = absurd cc
+-- of a condition and what stands behind it
+unless-one : {A : Type 0} (fails holds : Type 0) (e : VerifyFault) (meaning : A → Type 0) (fault : VerifyFault → Type 0) → (fails → holds → ⊥) → One meaning fault →
+    One (λ x. holds × meaning x) (Unless fails holds e fault)
+unless-one {A} fails holds e meaning fault never one = record { same = λ x y p q. one.same x y p.1 q.1; told = told; apart = apart }
+  where
+    told : (f g : VerifyFault) → Unless fails holds e fault f → Unless fails holds e fault g → f ≡ g
+    told f g (inl a) (inl b) = a.1 ∙ sym b.1
+    told f g (inl a) (inr b) = absurd (never a.0 b.0)
+    told f g (inr a) (inl b) = absurd (never b.0 a.0)
+    told f g (inr a) (inr b) = one.told f g a.1 b.1
 
-err-same : {A F : Type 0} (f g : F) (r : Result A F) → r ≡ Err f → r ≡ Err g → f ≡ g
-err-same f g r e k = cc
+    apart : (x : A) (f : VerifyFault) → holds × meaning x → Unless fails holds e fault f → ⊥
+    apart x f p (inl a) = never a.0 p.0
+    apart x f p (inr a) = one.apart x f p.1 a.1
 
-trees-one : (letter : Letter) (text : Bytes) → One (TreesFault letter text)
-trees-one letter text f g (inl a) (inl b) = a.1 ∙ sym b.1
-trees-one letter text f g (inl a) (inr b) = long-short (length text) a.0 b.0
-trees-one letter text f g (inr a) (inl b) = long-short (length text) b.0 a.0
-trees-one letter text f g (inr a) (inr b) = a.2 ∙ sym b.2
+-- of a text and what stands behind it
+then-one : {A B : Type 0} (fault : VerifyFault → Type 0) (meaning : A → Type 0) (next : A → VerifyFault → Type 0) (means : A → B → Type 0) → One meaning fault → ((x : A) → One (means x) (next x)) →
+    One (λ y. (x : A) × meaning x × means x y) (Then fault meaning next)
+then-one {A} {B} fault meaning next means one ones = record { same = λ y z p q. (ones q.0).same y z (subst (λ x. means x y) (one.same p.0 q.0 p.1 q.1) p.2) q.2; told = told; apart = apart }
+  where
+    told : (f g : VerifyFault) → Then fault meaning next f → Then fault meaning next g → f ≡ g
+    told f g (inl a) (inl b) = one.told f g a b
+    told f g (inl a) (inr b) = absurd (one.apart b.0 f b.1 a)
+    told f g (inr a) (inl b) = absurd (one.apart a.0 g a.1 b)
+    told f g (inr a) (inr b) = (ones b.0).told f g (subst (λ x. next x f) (one.same a.0 b.0 a.1 b.1) a.2) b.2
 
-trees-none : {G : Type 0} (letter : Letter) (text : Bytes) (f : VerifyFault) (ts : List Tree) → TreesFault letter text f → length text ≤ limit → trees.Means text ts → G
-trees-none letter text f ts (inl a) short spelled = long-short (length text) a.0 short
-trees-none letter text f ts (inr a) short spelled = absurd (a.1 ts spelled)
+    apart : (y : B) (f : VerifyFault) → (x : A) × meaning x × means x y → Then fault meaning next f → ⊥
+    apart y f p (inl a) = one.apart p.0 f p.1 a
+    apart y f p (inr a) = (ones a.0).apart y f (subst (λ x. means x y) (one.same p.0 a.0 p.1 a.1) p.2) a.2
 
-refuses-one : {A F : Type 0} (reading : Place → List Tree → Result A F) (text : Bytes) (f g : F) → OneMeaning → Refuses reading text f → Refuses reading text g → f ≡ g
-refuses-one reading text f g one p q =
-    err-same f g (reading (end_of (start_of text)) q.list) (rw (one text q.list p.list q.spelled p.spelled) p.refused) q.refused
+trees-one : OneMeaning → (letter : Letter) (text : Bytes) → One (Spells text) (TreesFault letter text)
+trees-one one letter text =
+    unless-one _ _ (Text letter why.TooLong) (MeansTrees text) _ (λ long short. omega (arith, long, short)) (record { same = one text; told = λ f g a b. a.1 ∙ sym b.1; apart = λ ts f p a. a.0 ts p })
 
-text-one : {A F : Type 0} (letter : Letter) (told : F → VerifyFault) (reading : Place → List Tree → Result A F) (text : Bytes) → OneMeaning → One (TextFault letter told reading text)
-text-one letter told reading text one f g (inl a) (inl b) = trees-one letter text f g a b
-text-one letter told reading text one f g (inl a) (inr b) = trees-none letter text f b.1.list a b.1.short b.1.spelled
-text-one letter told reading text one f g (inr a) (inl b) = trees-none letter text g a.1.list b a.1.short a.1.spelled
-text-one letter told reading text one f g (inr a) (inr b) = a.2 ∙ (ap told (refuses-one reading text a.0 b.0 one a.1 b.1) ∙ sym b.2)
+read-one : {A F : Type 0} (told : F → VerifyFault) (r : Result A F) → One (λ x. r ≡ Ok x) (λ f. (g : F) × (r ≡ Err g) × (f ≡ told g))
+read-one told r = record { same = λ x y p q. cc; told = λ f g a b. cc; apart = λ x f p a. absurd cc }
 
-text-none : {A F : Type 0} (letter : Letter) (told : F → VerifyFault) (reading : Place → List Tree → Result A F) (text : Bytes) → OneMeaning → (f : VerifyFault) (x : A) → TextFault letter told reading text f → Reads reading text x → ⊥
-text-none letter told reading text one f x (inl a) p = trees-none letter text f p.list a p.short p.spelled
-text-none letter told reading text one f x (inr a) p =
-    let q = a.1 in
-    ok-err x a.0 (reading (end_of (start_of text)) q.list) (rw (one text q.list p.list q.spelled p.spelled) p.meant) q.refused
+text-one : {A F : Type 0} → OneMeaning → (letter : Letter) (told : F → VerifyFault) (reading : Place → List Tree → Result A F) (text : Bytes) → One (Reads reading text) (TextFault letter told reading text)
+text-one one letter told reading text = then-one _ _ _ _ (trees-one one letter text) (λ list. read-one told (reading (end_of (start_of text)) list))
 
-circuit-fault-one : (c : Bytes) → One (CircuitFault c)
-circuit-fault-one c f g (inl a) (inl b) = a.1 ∙ sym b.1
-circuit-fault-one c f g (inl a) (inr b) = long-short (length c) a.0 b.0
-circuit-fault-one c f g (inr a) (inl b) = long-short (length c) b.0 a.0
-circuit-fault-one c f g (inr a) (inr b) = a.3 ∙ (ap (λ x. Text C (why.Circuit x)) (one-fault c a.1 b.1 a.2 b.2) ∙ sym b.3)
+circuit-one : (c : Bytes) → One (MeansCircuit c) (CircuitFault c)
+circuit-one c = unless-one _ _ (Text C why.TooLong) _ _ (λ long short. omega (arith, long, short)) (record {
+  same = one-circuit c;
+  told = λ f g a b. a.2 ∙ (ap (λ x. Text C (why.Circuit x)) (one-fault c a.0 b.0 a.1 b.1) ∙ sym b.2);
+  apart = λ x f m a. faultless c x a.0 m a.1;
+})
 
-circuit-fault-none : (c : Bytes) (f : VerifyFault) (x : Circuit) → CircuitFault c f → MeansCircuit c x → ⊥
-circuit-fault-none c f x (inl a) m = long-short (length c) a.0 m.short
-circuit-fault-none c f x (inr a) m = faultless c x a.1 m.read a.2
+-- of what is made of what is meant
+made-one : {A B : Type 0} (h : A → B) (meaning : A → Type 0) (fault : VerifyFault → Type 0) → One meaning fault → One (λ y. (x : A) × meaning x × (y ≡ h x)) fault
+made-one h meaning fault one = record { same = λ y z p q. p.2 ∙ (ap h (one.same p.0 q.0 p.1 q.1) ∙ sym q.2); told = one.told; apart = λ y f p a. one.apart p.0 f p.1 a }
 
--- a fault of a text or of those behind it
-then-one : {A : Type 0} (fault : VerifyFault → Type 0) (meaning : A → Type 0) (next : A → VerifyFault → Type 0) → One fault → ((f : VerifyFault) (x : A) → fault f → meaning x → ⊥) →
-    ((x y : A) → meaning x → meaning y → x ≡ y) → ((x : A) → One (next x)) → One (Then fault meaning next)
-then-one fault meaning next one none same ones f g (inl a) (inl b) = one f g a b
-then-one fault meaning next one none same ones f g (inl a) (inr b) = absurd (none f b.0 a b.1)
-then-one fault meaning next one none same ones f g (inr a) (inl b) = absurd (none g a.0 b a.1)
-then-one fault meaning next one none same ones f g (inr a) (inr b) = ones b.0 f g (subst (λ x. next x f) (same a.0 b.0 a.1 b.1) a.2) b.2
+-- the parts of five texts, one behind the other
+abbrev Meant : FiveTexts → Parts → Type 0
+Meant t p =
+    (circuit : Circuit) × MeansCircuit t.c circuit
+    × ((spec : SpecParts) × Reads spec_text t.s spec
+    × ((driver : DriverParts) × Reads (driver_text circuit spec) t.d driver
+    × ((emulator : EmuParts) × Reads (emulator_text circuit spec driver) t.e emulator
+    × ((fits_device circuit spec driver emulator ≡ true)
+    × ((script : ScriptParts) × Reads (script_text circuit spec driver emulator) t.h script
+    × (p ≡ record { circuit = circuit; spec = spec; driver = driver; emulator = emulator; script = script }))))))
 
-then-none : {A : Type 0} (fault : VerifyFault → Type 0) (meaning : A → Type 0) (next : A → VerifyFault → Type 0) → ((f : VerifyFault) (x : A) → fault f → meaning x → ⊥) →
-    ((x y : A) → meaning x → meaning y → x ≡ y) → (f : VerifyFault) (y : A) → meaning y → (next y f → ⊥) → Then fault meaning next f → ⊥
-then-none fault meaning next none same f y m behind (inl a) = none f y a m
-then-none fault meaning next none same f y m behind (inr a) = behind (subst (λ x. next x f) (same a.0 y a.1 m) a.2)
-
-true-false : {G : Type 0} (b : Bool) → b ≡ true → b ≡ false → G
-true-false b e f = absurd cc
-
-hints-one : (b : Bool) (fault : VerifyFault → Type 0) → One fault → One (HintsFault (b ≡ true) (b ≡ false) fault)
-hints-one b fault one f g (inl x) (inl y) = x.1 ∙ sym y.1
-hints-one b fault one f g (inl x) (inr y) = true-false b y.0 x.0
-hints-one b fault one f g (inr x) (inl y) = true-false b x.0 y.0
-hints-one b fault one f g (inr x) (inr y) = one f g x.1 y.1
-
-hints-none : (b : Bool) (fault : VerifyFault → Type 0) (f : VerifyFault) → b ≡ true → (fault f → ⊥) → HintsFault (b ≡ true) (b ≡ false) fault f → ⊥
-hints-none b fault f fits none (inl x) = true-false b fits x.0
-hints-none b fault f fits none (inr x) = none x.1
-
-pub first-one : OneMeaning → (t : FiveTexts) → One (FirstFault t)
-first-one one t =
-    then-one (CircuitFault t.c) (MeansCircuit t.c) _ (circuit-fault-one t.c) (circuit-fault-none t.c) (circuit-one t.c) (λ circuit.
-    then-one (TextFault S of_program spec_text t.s) (Reads spec_text t.s) _ (text-one S of_program spec_text t.s one) (text-none S of_program spec_text t.s one) (λ x y. reads-one spec_text t.s x y one) (λ spec.
-    then-one (TextFault D of_driver (driver_text circuit spec) t.d) (Reads (driver_text circuit spec) t.d) _ (text-one D of_driver (driver_text circuit spec) t.d one) (text-none D of_driver (driver_text circuit spec) t.d one)
-    (λ x y. reads-one (driver_text circuit spec) t.d x y one) (λ driver.
-    then-one (TextFault E of_program (emulator_text circuit spec driver) t.e) (Reads (emulator_text circuit spec driver) t.e) _ (text-one E of_program (emulator_text circuit spec driver) t.e one)
-    (text-none E of_program (emulator_text circuit spec driver) t.e one) (λ x y. reads-one (emulator_text circuit spec driver) t.e x y one) (λ emulator.
-    hints-one (fits_device circuit spec driver emulator) (TextFault H of_script (script_text circuit spec driver emulator) t.h) (text-one H of_script (script_text circuit spec driver emulator) t.h one)))))
-
--- the faults behind the texts of a circuit, of a specification, of a driver and of an emulator
-abbrev in-emulator : FiveTexts → Circuit → SpecParts → DriverParts → EmuParts → VerifyFault → Type 0
-in-emulator t circuit spec driver emulator =
-    HintsFault (fits_device circuit spec driver emulator ≡ true) (fits_device circuit spec driver emulator ≡ false) (TextFault H of_script (script_text circuit spec driver emulator) t.h)
-
-abbrev in-driver : FiveTexts → Circuit → SpecParts → DriverParts → VerifyFault → Type 0
-in-driver t circuit spec driver = Then (TextFault E of_program (emulator_text circuit spec driver) t.e) (Reads (emulator_text circuit spec driver) t.e) (in-emulator t circuit spec driver)
-
-abbrev in-spec : FiveTexts → Circuit → SpecParts → VerifyFault → Type 0
-in-spec t circuit spec = Then (TextFault D of_driver (driver_text circuit spec) t.d) (Reads (driver_text circuit spec) t.d) (in-driver t circuit spec)
-
-abbrev in-circuit : FiveTexts → Circuit → VerifyFault → Type 0
-in-circuit t circuit = Then (TextFault S of_program spec_text t.s) (Reads spec_text t.s) (in-spec t circuit)
-
-pub first-none : OneMeaning → (t : FiveTexts) (p : Parts) (f : VerifyFault) → Means t p → FirstFault t f → ⊥
-first-none one t p f m =
+meant-of : (t : FiveTexts) (p : Parts) → Means t p → Meant t p
+meant-of t p m =
     let d = m.device in
-    then-none (CircuitFault t.c) (MeansCircuit t.c) (in-circuit t) (circuit-fault-none t.c) (circuit-one t.c) f p.circuit d.circuit_read
-    (then-none (TextFault S of_program spec_text t.s) (Reads spec_text t.s) (in-spec t p.circuit) (text-none S of_program spec_text t.s one) (λ x y. reads-one spec_text t.s x y one) f p.spec d.spec_read
-    (then-none (TextFault D of_driver (driver_text p.circuit p.spec) t.d) (Reads (driver_text p.circuit p.spec) t.d) (in-driver t p.circuit p.spec) (text-none D of_driver (driver_text p.circuit p.spec) t.d one)
-    (λ x y. reads-one (driver_text p.circuit p.spec) t.d x y one) f p.driver d.driver_read
-    (then-none (TextFault E of_program (emulator_text p.circuit p.spec p.driver) t.e) (Reads (emulator_text p.circuit p.spec p.driver) t.e) (in-emulator t p.circuit p.spec p.driver) (text-none E of_program (emulator_text p.circuit p.spec p.driver) t.e one)
-    (λ x y. reads-one (emulator_text p.circuit p.spec p.driver) t.e x y one) f p.emulator d.emulator_read
-    (hints-none (fits_device p.circuit p.spec p.driver p.emulator) (TextFault H of_script (script_text p.circuit p.spec p.driver p.emulator) t.h) f d.fit
-    (λ bad. text-none H of_script (script_text p.circuit p.spec p.driver p.emulator) t.h one f p.script bad m.script)))))
+    (p.circuit, d.circuit_read, (p.spec, d.spec_read, (p.driver, d.driver_read, (p.emulator, d.emulator_read, (d.fit, (p.script, m.script, refl))))))
+
+parts-one : OneMeaning → (t : FiveTexts) → One (Meant t) (FirstFault t)
+parts-one one t =
+    then-one _ _ _ _ (circuit-one t.c) (λ circuit.
+    then-one _ _ _ _ (text-one one S of_program spec_text t.s) (λ spec.
+    then-one _ _ _ _ (text-one one D of_driver (driver_text circuit spec) t.d) (λ driver.
+    then-one _ _ _ _ (text-one one E of_program (emulator_text circuit spec driver) t.e) (λ emulator.
+    unless-one _ _ NotYet _ _ (λ misfits fits. cc)
+    (made-one (λ script. record { circuit = circuit; spec = spec; driver = driver; emulator = emulator; script = script }) _ _ (text-one one H of_script (script_text circuit spec driver emulator) t.h))))))
+
+pub five-one : OneMeaning → (t : FiveTexts) → One (Means t) (FirstFault t)
+five-one one t =
+    let parts = parts-one one t in
+    record { same = λ p q m n. parts.same p q (meant-of t p m) (meant-of t q n); told = parts.told; apart = λ p f m a. parts.apart p f (meant-of t p m) a }
 
 -- ---- what is refused
-
-pub trees-refused : (letter : Letter) (text : Bytes) (f : SexprFault) → length text ≤ limit → ((ts : List Tree) → trees.Means text ts → f ≡ tree.Memory) → OrMemory (TreesFault letter text) (of_trees f)
-trees-refused letter text tree.Memory short only = inl refl
-trees-refused letter text _ short only = inr (inr (short, λ ts spelled. let bad = only ts spelled in absurd cc, refl))
-
--- ---- faults of texts as the first of five
-
-pub of-hints : (t : FiveTexts) (circuit : Circuit) (spec : SpecParts) (driver : DriverParts) (emulator : EmuParts) (f : VerifyFault) → MeansDevice t.c t.s t.d t.e circuit spec driver emulator →
-    TextFault H of_script (script_text circuit spec driver emulator) t.h f → FirstFault t f
-of-hints t circuit spec driver emulator f m bad =
-    inr (circuit, m.circuit_read, inr (spec, m.spec_read, inr (driver, m.driver_read, inr (emulator, m.emulator_read, inr (m.fit, bad)))))
-
--- where memory ran out or a text has a fault, behind texts that mean something
-pub of-script-text : (t : FiveTexts) (circuit : Circuit) (spec : SpecParts) (driver : DriverParts) (emulator : EmuParts) (f : VerifyFault) → MeansDevice t.c t.s t.d t.e circuit spec driver emulator →
-    OrMemory (TextFault H of_script (script_text circuit spec driver emulator) t.h) f → OrMemory (FirstFault t) f
-of-script-text t circuit spec driver emulator f m (inl e) = inl e
-of-script-text t circuit spec driver emulator f m (inr bad) = inr (of-hints t circuit spec driver emulator f m bad)
 
 pub is-false : (b : Bool) → (b ≡ true → false ≡ true) → b ≡ false
 is-false true h = sym (h refl)
 is-false false h = refl
 
-pub of-driver : (t : FiveTexts) (circuit : Circuit) (spec : SpecParts) (f : VerifyFault) → MeansCircuit t.c circuit → Reads spec_text t.s spec → OrMemory (TextFault D of_driver (driver_text circuit spec) t.d) f → OrMemory (FirstFault t) f
-of-driver t circuit spec f m n (inl e) = inl e
-of-driver t circuit spec f m n (inr bad) = inr (inr (circuit, m, inr (spec, n, inl bad)))
+-- ---- what follows of a refusal that is the first fault, and of a verdict
 
-pub of-emulator : (t : FiveTexts) (circuit : Circuit) (spec : SpecParts) (driver : DriverParts) (f : VerifyFault) → MeansCircuit t.c circuit → Reads spec_text t.s spec → Reads (driver_text circuit spec) t.d driver →
-    OrMemory (TextFault E of_program (emulator_text circuit spec driver) t.e) f → OrMemory (FirstFault t) f
-of-emulator t circuit spec driver f m n o (inl e) = inl e
-of-emulator t circuit spec driver f m n o (inr bad) = inr (inr (circuit, m, inr (spec, n, inr (driver, o, inl bad))))
+pub meant-memory : {V : Type 0} (t : FiveTexts) (p : Parts) (r : Result V VerifyFault) → One (Means t) (FirstFault t) → Means t p → IfErr r (OrMemory (FirstFault t)) → IfErr r (λ f. f ≡ Memory)
+meant-memory t p (Ok v) one m said = tt
+meant-memory t p (Err f) one m (inl e) = e
+meant-memory t p (Err f) one m (inr bad) = absurd (one.apart p f m bad)
 
-pub of-misfit : (t : FiveTexts) (circuit : Circuit) (spec : SpecParts) (driver : DriverParts) (emulator : EmuParts) → MeansCircuit t.c circuit → Reads spec_text t.s spec → Reads (driver_text circuit spec) t.d driver →
-    Reads (emulator_text circuit spec driver) t.e emulator → fits_device circuit spec driver emulator ≡ false → OrMemory (FirstFault t) NotYet
-of-misfit t circuit spec driver emulator m n o q misfit = inr (inr (circuit, m, inr (spec, n, inr (driver, o, inr (emulator, q, inl (misfit, refl))))))
+pub first-told : (t : FiveTexts) (f : VerifyFault) (r : Result Verdict VerifyFault) → One (Means t) (FirstFault t) → FirstFault t f → IfOk r (λ v. (p : Parts) × Means t p × Decides p v) → IfErr r (OrMemory (FirstFault t)) →
+    (r ≡ Err f) ⊎ (r ≡ Err Memory)
+first-told t f (Ok v) one bad judged said = absurd (one.apart judged.0 f judged.1 bad)
+first-told t f (Err g) one bad judged (inl e) = inr (ap Err e)
+first-told t f (Err g) one bad judged (inr told) = inl (ap Err (one.told g f told bad))
 
--- what follows of a refusal that is the first fault, and of a verdict
-pub meant-memory : {V : Type 0} → OneMeaning → (t : FiveTexts) (p : Parts) (r : Result V VerifyFault) → Means t p → IfErr r (OrMemory (FirstFault t)) → IfErr r (λ f. f ≡ Memory)
-meant-memory one t p (Ok v) m said = tt
-meant-memory one t p (Err f) m (inl e) = e
-meant-memory one t p (Err f) m (inr bad) = absurd (first-none one t p f m bad)
-
-pub first-told : OneMeaning → (t : FiveTexts) (f : VerifyFault) (r : Result Verdict VerifyFault) → FirstFault t f → IfOk r (λ v. (p : Parts) × Means t p × Decides p v) → IfErr r (OrMemory (FirstFault t)) → (r ≡ Err f) ⊎ (r ≡ Err Memory)
-first-told one t f (Ok v) bad judged said = absurd (first-none one t judged.0 f judged.1 bad)
-first-told one t f (Err g) bad judged (inl e) = inr (ap Err e)
-first-told one t f (Err g) bad judged (inr told) = inl (ap Err (first-one one t g f told bad))
-
-not-decided : {G : Type 0} (p : Parts) (v : Verdict) → AllHold p → Decides p v → (v ≡ Yes → G) → G
-not-decided p Yes held says leads = leads refl
-not-decided p (Undecided hint choices) held says leads = absurd (held.closed.never hint.0 choices.words says.falsified)
-not-decided p (TooWide hint bits) held says leads =
+held-yes : (p : Parts) (v : Verdict) → AllHold p → Decides p v → v ≡ Yes
+held-yes p Yes held says = refl
+held-yes p (Undecided hint choices) held says = absurd (held.closed.never hint.0 choices.words says.falsified)
+held-yes p (TooWide hint bits) held says =
     absurd (let low = held.narrow says.segment says.listed in let wide = says.wide in let counts = says.counts in omega (arith, low, wide, counts))
 
-pub yes-told : OneMeaning → (t : FiveTexts) (p : Parts) (r : Result Verdict VerifyFault) → Means t p → AllHold p → IfOk r (λ v. (p : Parts) × Means t p × Decides p v) → IfErr r (OrMemory (FirstFault t)) → (r ≡ Ok Yes) ⊎ (r ≡ Err Memory)
-yes-told one t p (Ok v) m held judged said =
-    inl (ap Ok (not-decided p v held (subst (λ q. Decides q v) (means-one one t judged.0 p judged.1 m) judged.2) (λ e. e)))
-yes-told one t p (Err f) m held judged said = inr (ap Err (meant-memory {V = Verdict} one t p (Err f) m said))
+pub yes-told : (t : FiveTexts) (p : Parts) (r : Result Verdict VerifyFault) → One (Means t) (FirstFault t) → Means t p → AllHold p → IfOk r (λ v. (p : Parts) × Means t p × Decides p v) → IfErr r (OrMemory (FirstFault t)) →
+    (r ≡ Ok Yes) ⊎ (r ≡ Err Memory)
+yes-told t p (Ok v) one m held judged said = inl (ap Ok (held-yes p v held (subst (λ q. Decides q v) (one.same judged.0 p judged.1 m) judged.2)))
+yes-told t p (Err f) one m held judged said = inr (ap Err (meant-memory {V = Verdict} t p (Err f) one m said))

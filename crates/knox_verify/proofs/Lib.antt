@@ -1,4 +1,2 @@
 pub mod Deciding
-pub mod Agreed
-pub mod MeaningsLemmas
 pub mod FaultsLemmas

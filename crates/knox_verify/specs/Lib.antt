@@ -1,3 +1,4 @@
+pub mod Words
 pub mod Judgements
 pub mod Meanings
 pub mod Faults

@@ -1,20 +1,6 @@
 -- What five texts mean: each of them by a definition of its own, over those before it.
 use Rattle.std.specs.Prelude.{◌≡◌, ◌≤◌, true, List, length, Result, Ok}
-use Rattle.knox_text.specs.declared.place.Place.{Place}
-use Rattle.knox_text.specs.Places.{start_of, end_of}
-use Rattle.knox_sexpr.specs.declared.tree.Tree.{Tree}
-use Rattle.knox_sexpr.specs.Grammar as trees
-use Rattle.knox_edge.specs.Texts.{Bytes, limit}
-use Rattle.knox_circuit.specs.Circuit.{Circuit}
-use Rattle.knox_lang.specs.declared.parts.SpecParts.{SpecParts}
-use Rattle.knox_lang.specs.declared.parts.DriverParts.{DriverParts}
-use Rattle.knox_lang.specs.declared.parts.EmuParts.{EmuParts}
-use Rattle.btor_read.specs.Meaning.{IsCircuit}
-use Rattle.lang_read.specs.Specifications.{spec_text}
-use Rattle.lang_read.specs.Drivers.{driver_text}
-use Rattle.lang_read.specs.Emulators.{emulator_text}
-use Rattle.script_read.specs.Scripts.{script_text}
-use Rattle.emu_machine.specs.Fits.{fits_device}
+use Rattle.knox_verify.specs.Words.{Place, start_of, end_of, Tree, MeansTrees, Bytes, limit, Circuit, SpecParts, DriverParts, EmuParts, IsCircuit, spec_text, driver_text, emulator_text, script_text, fits_device}
 use Rattle.knox_verify.specs.Judgements.{Parts}
 
 -- the texts of a circuit, a specification, a driver, an emulator and hints
@@ -29,16 +15,16 @@ abbrev pub five : (c s d e h : Bytes) → FiveTexts
 five c s d e h = record { c = c; s = s; d = d; e = e; h = h }
 
 -- the text isn't too long, and means this circuit
-pub record MeansCircuit (text : Bytes) (circuit : Circuit) : Type 0 where
-  pub short : length text ≤ limit
-  pub read : IsCircuit text circuit
+abbrev pub MeansCircuit : Bytes → Circuit → Type 0
+MeansCircuit text circuit = (length text ≤ limit) × IsCircuit text circuit
 
--- the text isn't too long, and is trees that a reading takes for this; a reading is told the place of the text's end
-pub record Reads {A F : Type 0} (reading : Place → List Tree → Result A F) (text : Bytes) (x : A) : Type 0 where
-  pub short : length text ≤ limit
-  pub list : List Tree
-  pub spelled : trees.Means text list
-  pub meant : reading (end_of (start_of text)) list ≡ Ok x
+-- the text isn't too long, and is these trees
+abbrev pub Spells : Bytes → List Tree → Type 0
+Spells text list = (length text ≤ limit) × MeansTrees text list
+
+-- the text is trees that a reading takes for this; a reading is told the place of the text's end
+abbrev pub Reads : {A F : Type 0} → (Place → List Tree → Result A F) → Bytes → A → Type 0
+Reads reading text x = (list : List Tree) × Spells text list × (reading (end_of (start_of text)) list ≡ Ok x)
 
 -- four texts mean a circuit, a specification, a driver and an emulator, which fit each other
 pub record MeansDevice (c s d e : Bytes) (circuit : Circuit) (spec : SpecParts) (driver : DriverParts) (emulator : EmuParts) : Type 0 where

@@ -1,7 +1,6 @@
 -- What a verdict says of the parts that five texts mean.
 -- What a yes says is `Agree (device p)` of knox_theory: with the meaning of the texts, it is what everybody must believe.
-use Rattle.knox_verify.specs.declared.verdict.Verdict.{Verdict}
-use Rattle.knox_verify.specs.declared.verdict.Verdict.TheVariants.{Yes, Undecided, TooWide}
+use Rattle.knox_verify.specs.declared.verdict.Verdict.{Verdict, TheVariants.Yes, TheVariants.Undecided, TheVariants.TooWide}
 use Rattle.knox_verify.specs.Judgements.{Parts, AllHold, Undecides, IsTooWide}
 
 -- what deciding the script says

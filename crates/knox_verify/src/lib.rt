@@ -3,7 +3,6 @@
 #![tactic(auto)]
 
 mod meaning;
-mod unbuilt;
 mod verdict;
 mod verify;
 

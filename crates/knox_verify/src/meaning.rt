@@ -1,44 +1,27 @@
 //! From five texts to what they mean: each text is read by its language's own definition, and
 //! parts that don't fit each other are in no form.
 ghost use Rattle.std.specs.Prelude.{◌≡◌, ◌≤◌, ◌<◌, length, IfOk, IfErr, OnOk};
-ghost use Rattle.knox_text.specs.Places.{start_of, end_of};
-ghost use Rattle.knox_sexpr.specs.Grammar as trees;
-ghost use Rattle.knox_edge.specs.Texts.{Bytes, limit};
-ghost use Rattle.lang_read.specs.Specifications.{spec_text};
-ghost use Rattle.lang_read.specs.Drivers.{driver_text};
-ghost use Rattle.lang_read.specs.Emulators.{emulator_text};
-ghost use Rattle.script_read.specs.Scripts.{script_text};
-ghost use Rattle.knox_verify.specs.declared.verdict.Letter.TheVariants.{S, D, E, H};
-ghost use Rattle.knox_verify.specs.declared.verdict.TextWhy.TheVariants as why;
-ghost use Rattle.knox_verify.specs.declared.verdict.VerifyFault.TheVariants.{Text};
-ghost use Rattle.knox_verify.specs.Meanings.{five, MeansCircuit, Reads, MeansDevice};
+ghost use Rattle.knox_verify.specs.Words.{start_of, end_of, Bytes, limit, spec_text, driver_text, emulator_text, script_text};
+ghost use Rattle.knox_verify.specs.Meanings.{five, MeansCircuit, Spells, Reads, MeansDevice};
 ghost use Rattle.knox_verify.specs.Faults.{of_program, of_driver, of_script, OrMemory, TreesFault, TextFault, CircuitFault, FirstFault};
 
-use crate::unbuilt::driver_fault;
 use crate::verdict::{Letter, TextWhy, VerifyFault};
 use emu_machine::Device;
-use knox_circuit::Circuit;
+use knox_circuit::{Circuit, Why};
+use knox_edge::LIMIT;
 use knox_lang::{DriverProgram, EmuProgram, SpecProgram};
-use knox_sexpr::Tree;
-use knox_text::{Place, end_place};
+use knox_sexpr::{SexprFault, Tree};
+use knox_text::end_place;
+use lang_read::LangWhy;
 use script_core::Script;
+use script_read::ScriptWhy;
 use sqlite_items::Items;
 use std::alloc::Global;
-
-/// How many bytes a text may have.
-const LIMIT: usize = 67_108_864;
-
-/// The trees of a text, and the place after its last byte.
-#[derive(Drop)]
-struct Parsed {
-    trees: Items<Tree>,
-    end: Place,
-}
 
 /// A text that is too long is refused.
 fn check_length(letter: Letter, text: &[u8]) -> Result<(), VerifyFault>
     ensures short { OnOk result (length text.now ≤ limit) }
-    ensures long { IfErr result (λ f. (limit < length text.now) × (f ≡ Text letter why.TooLong)) }
+    ensures long { IfErr result (λ f. (limit < length text.now) × (f ≡ VerifyFault.Text letter TextWhy.TooLong)) }
 {
     if text.len() > LIMIT {
         return Err(VerifyFault::Text(letter, TextWhy::TooLong));
@@ -46,32 +29,30 @@ fn check_length(letter: Letter, text: &[u8]) -> Result<(), VerifyFault>
     Ok(())
 }
 
-/// The trees of a text, with the place of its end.
-fn parse(alloc: Global, letter: Letter, text: &[u8]) -> Result<Parsed, VerifyFault>
-    ensures short { OnOk result (length text.now ≤ limit) }
-    ensures trees { IfOk result (λ p. trees.Means text.now p.trees) }
-    ensures end { IfOk result (λ p. p.end ≡ end_of (start_of text.now)) }
+/// The trees of a text.
+fn parse(alloc: Global, letter: Letter, text: &[u8]) -> Result<Items<Tree>, VerifyFault>
+    ensures trees { IfOk result (λ trees. Spells text.now trees) }
     ensures fault { IfErr result (OrMemory (TreesFault letter text.now)) }
 {
     check_length(letter, text)?;
-    let trees = knox_sexpr::read(alloc, text)?;
-    Ok(Parsed {
-        trees,
-        end: end_place(text),
-    })
+    match knox_sexpr::read(alloc, text) {
+        Ok(trees) => Ok(trees),
+        Err(SexprFault::Memory) => Err(VerifyFault::Memory),
+        Err(_) => Err(VerifyFault::NotYet),
+    }
 }
 
 /// The specification that a text means.
 fn spec_of(alloc: Global, s: &[u8]) -> Result<SpecProgram, VerifyFault>
     ensures meant { IfOk result (λ spec. Reads spec_text s.now spec) }
-    ensures fault { IfErr result (OrMemory (TextFault S of_program spec_text s.now)) }
+    ensures fault { IfErr result (OrMemory (TextFault Letter.S of_program spec_text s.now)) }
 {
-    let text = parse(alloc, Letter::S, s)?;
-    let spec = lang_read::read_spec(alloc, text.trees.as_slice(), text.end)?;
+    let trees = parse(alloc, Letter::S, s)?;
+    let spec = lang_read::read_spec(alloc, trees.as_slice(), end_place(s))?;
     Ok(spec)
 }
 
-/// The driver that a text means for a circuit and a specification.
+/// The driver that a text means for a circuit and a specification. A call that is missing is told.
 fn driver_of(
     alloc: Global,
     d: &[u8],
@@ -79,12 +60,15 @@ fn driver_of(
     spec: &SpecProgram,
 ) -> Result<DriverProgram, VerifyFault>
     ensures meant { IfOk result (λ driver. Reads (driver_text circuit.now spec.now) d.now driver) }
-    ensures fault { IfErr result (OrMemory (TextFault D of_driver (driver_text circuit.now spec.now) d.now)) }
+    ensures fault { IfErr result (OrMemory (TextFault Letter.D of_driver (driver_text circuit.now spec.now) d.now)) }
 {
-    let text = parse(alloc, Letter::D, d)?;
-    match lang_read::read_driver(alloc, text.trees.as_slice(), text.end, circuit, spec) {
+    let trees = parse(alloc, Letter::D, d)?;
+    match lang_read::read_driver(alloc, trees.as_slice(), end_place(d), circuit, spec) {
         Ok(driver) => Ok(driver),
-        Err(fault) => Err(driver_fault(fault)),
+        Err(fault) if fault.why == LangWhy::Missing => {
+            Err(VerifyFault::Text(Letter::D, TextWhy::Lang(fault)))
+        }
+        Err(fault) => Err(VerifyFault::from(fault)),
     }
 }
 
@@ -97,11 +81,11 @@ fn emulator_of(
     driver: &DriverProgram,
 ) -> Result<EmuProgram, VerifyFault>
     ensures meant { IfOk result (λ emulator. Reads (emulator_text circuit.now spec.now driver.now) e.now emulator) }
-    ensures fault { IfErr result (OrMemory (TextFault E of_program (emulator_text circuit.now spec.now driver.now) e.now)) }
+    ensures fault { IfErr result (OrMemory (TextFault Letter.E of_program (emulator_text circuit.now spec.now driver.now) e.now)) }
 {
-    let text = parse(alloc, Letter::E, e)?;
-    let trees = text.trees.as_slice();
-    let emulator = lang_read::read_emulator(alloc, trees, text.end, circuit, spec, driver)?;
+    let trees = parse(alloc, Letter::E, e)?;
+    let end = end_place(e);
+    let emulator = lang_read::read_emulator(alloc, trees.as_slice(), end, circuit, spec, driver)?;
     Ok(emulator)
 }
 
@@ -111,8 +95,11 @@ fn circuit_of(alloc: Global, c: &[u8]) -> Result<Circuit, VerifyFault>
     ensures fault { IfErr result (OrMemory (CircuitFault c.now)) }
 {
     check_length(Letter::C, c)?;
-    let circuit = btor_read::read_circuit(alloc, c)?;
-    Ok(circuit)
+    match btor_read::read_circuit(alloc, c) {
+        Ok(circuit) => Ok(circuit),
+        Err(fault) if fault.why == Why::Memory => Err(VerifyFault::Memory),
+        Err(fault) => Err(VerifyFault::Text(Letter::C, TextWhy::Circuit(fault))),
+    }
 }
 
 /// The device that four texts mean. A refusal is the first fault of the four texts with any hints
@@ -137,12 +124,18 @@ pub fn device_of(
     }
 }
 
-/// The script that a text means for a device.
+/// The script that a text means for a device. A form that is missing is told.
 pub(crate) fn script_of(alloc: Global, dev: &Device, h: &[u8]) -> Result<Script, VerifyFault>
     ensures meant { IfOk result (λ script. Reads (script_text dev.now.circuit dev.now.spec dev.now.driver dev.now.emulator) h.now script) }
-    ensures fault { IfErr result (OrMemory (TextFault H of_script (script_text dev.now.circuit dev.now.spec dev.now.driver dev.now.emulator) h.now)) }
+    ensures fault { IfErr result (OrMemory (TextFault Letter.H of_script (script_text dev.now.circuit dev.now.spec dev.now.driver dev.now.emulator) h.now)) }
 {
-    let text = parse(alloc, Letter::H, h)?;
-    let script = script_read::read_script(alloc, text.trees.as_slice(), text.end, dev)?;
-    Ok(script)
+    let trees = parse(alloc, Letter::H, h)?;
+    match script_read::read_script(alloc, trees.as_slice(), end_place(h), dev) {
+        Ok(script) => Ok(script),
+        Err(fault) if fault.why == ScriptWhy::Memory => Err(VerifyFault::Memory),
+        Err(fault) if fault.why == ScriptWhy::Missing => {
+            Err(VerifyFault::Text(Letter::H, TextWhy::Script(fault)))
+        }
+        Err(_) => Err(VerifyFault::NotYet),
+    }
 }

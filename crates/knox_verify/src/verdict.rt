@@ -1,8 +1,12 @@
-//! Verdicts on five texts.
+//! Verdicts on five texts, and why there is none.
+ghost use Rattle.std.specs.Prelude.{◌≡◌};
+ghost use Rattle.knox_verify.specs.declared.verdict.VerifyFault.TheVariants.{Memory};
+
 use knox_circuit::BtorFault;
-use lang_read::LangFault;
+use lang_read::{LangFault, LangWhy};
 use script_core::{Choices, HintNo};
 use script_read::ScriptFault;
+use std::alloc::AllocError;
 
 /// A text of a command: a circuit, a specification, a driver, an emulator, hints, a trace, a formula or a proof.
 #[derive(Clone, Copy, Debug, PartialEq, Eq)]
@@ -40,6 +44,28 @@ pub enum VerifyFault {
     NotYet,
     /// Memory ran out. This says nothing of the texts.
     Memory,
+}
+
+impl From<AllocError> for VerifyFault {
+    ghost from_gives = { λ _ fault. fault ≡ Memory };
+
+    fn from(_e: AllocError) -> VerifyFault {
+        VerifyFault::Memory
+    }
+}
+
+/// A text of the languages that isn't read is one of a form that isn't built.
+impl From<LangFault> for VerifyFault {
+    ghost use Rattle.knox_verify.specs.Faults.{of_program};
+
+    ghost from_gives = { λ f fault. fault ≡ of_program f };
+
+    fn from(fault: LangFault) -> VerifyFault {
+        match fault.why {
+            LangWhy::Memory => VerifyFault::Memory,
+            _ => VerifyFault::NotYet,
+        }
+    }
 }
 
 /// What is known of five texts.

@@ -1,14 +1,7 @@
 //! The verifier: five texts get their meaning, and then the script is decided segment by segment.
 ghost use Rattle.std.specs.Prelude.{◌≡◌, ◌⊎◌, length, Ok, Err, IfOk, IfErr};
-ghost use Rattle.knox_theory.specs.Agreement.{Agree};
-ghost use Rattle.script_core.specs.Hints.{ops_of};
-ghost use Rattle.knox_verify.specs.declared.verdict.Verdict.TheVariants.{Yes};
-ghost use Rattle.knox_verify.specs.declared.verdict.VerifyFault.{VerifyFault};
-ghost use Rattle.knox_verify.specs.declared.verdict.VerifyFault.TheVariants.{Memory};
 ghost use Rattle.knox_verify.specs.Judgements.{Parts, parts_of, device, AllHold};
-ghost use Rattle.knox_verify.specs.Meanings.{five, Means};
-ghost use Rattle.knox_verify.specs.Faults.{FirstFault, OrMemory};
-ghost use Rattle.knox_verify.specs.Verdicts.{Decides};
+ghost use Rattle.knox_verify.specs.{Words.Agree, Words.ops_of, declared.verdict.VerifyFault.VerifyFault, Meanings.five, Meanings.Means, Faults.FirstFault, Faults.OrMemory, Verdicts.Decides};
 
 use crate::meaning::{device_of, script_of};
 use crate::verdict::{Verdict, VerifyFault};
@@ -20,7 +13,7 @@ use std::alloc::Global;
 fn decide(alloc: Global, dev: &Device, sc: &Script) -> Result<Verdict, VerifyFault>
     requires of { length dev.now.spec.ops ≡ ops_of sc.now }
     ensures decided { IfOk result (Decides (parts_of dev.now sc.now)) }
-    ensures memory { IfErr result (λ f. f ≡ Memory) }
+    ensures memory { IfErr result (λ f. f ≡ VerifyFault.Memory) }
 {
     for g in 0..sc.segments() {
         match check(alloc, dev, sc, SegmentNo(g))? {
@@ -42,7 +35,7 @@ fn judge(
     h: &[u8],
 ) -> Result<Verdict, VerifyFault>
     ensures judged { IfOk result (λ v. (p : Parts) × Means (five c.now s.now d.now e.now h.now) p × Decides p v) }
-    ensures agree { result ≡ Ok Yes → (p : Parts) × Means (five c.now s.now d.now e.now h.now) p × Agree (device p) }
+    ensures agree { result ≡ Ok Verdict.Yes → (p : Parts) × Means (five c.now s.now d.now e.now h.now) p × Agree (device p) }
     ensures refused { IfErr result (OrMemory (FirstFault (five c.now s.now d.now e.now h.now))) }
 {
     let dev = device_of(alloc, c, s, d, e)?;
@@ -68,21 +61,21 @@ pub fn verify_texts(
     _paths: u32,
 ) -> Result<Verdict, VerifyFault>
     // A yes: the texts mean parts whose two worlds agree,
-    ensures agree { result ≡ Ok Yes → (p : Parts) × Means (five c.now s.now d.now e.now h.now) p × Agree (device p) }
+    ensures agree { result ≡ Ok Verdict.Yes → (p : Parts) × Means (five c.now s.now d.now e.now h.now) p × Agree (device p) }
     // and whose script is closed.
-    ensures closed { result ≡ Ok Yes → (p : Parts) × Means (five c.now s.now d.now e.now h.now) p × AllHold p }
+    ensures closed { result ≡ Ok Verdict.Yes → (p : Parts) × Means (five c.now s.now d.now e.now h.now) p × AllHold p }
     // Where they mean such parts, the answer is yes, unless memory runs out.
-    ensures yes { (p : Parts) → Means (five c.now s.now d.now e.now h.now) p → AllHold p → (result ≡ Ok Yes) ⊎ (result ≡ Err Memory) }
+    ensures yes { (p : Parts) → Means (five c.now s.now d.now e.now h.now) p → AllHold p → (result ≡ Ok Verdict.Yes) ⊎ (result ≡ Err VerifyFault.Memory) }
     // What each verdict says of the parts that the texts mean.
     ensures judged { IfOk result (λ v. (p : Parts) × Means (five c.now s.now d.now e.now h.now) p × Decides p v) }
     // Texts that mean something are refused for want of memory alone.
-    ensures meant { (p : Parts) → Means (five c.now s.now d.now e.now h.now) p → IfErr result (λ f. f ≡ Memory) }
+    ensures meant { (p : Parts) → Means (five c.now s.now d.now e.now h.now) p → IfErr result (λ f. f ≡ VerifyFault.Memory) }
     // They mean at most one thing.
     ensures one_meaning { (p q : Parts) → Means (five c.now s.now d.now e.now h.now) p → Means (five c.now s.now d.now e.now h.now) q → p ≡ q }
     // A refusal is their first fault,
     ensures refused { IfErr result (OrMemory (FirstFault (five c.now s.now d.now e.now h.now))) }
     // and where they have one, it is told, unless memory runs out.
-    ensures first_fault { (f : VerifyFault) → FirstFault (five c.now s.now d.now e.now h.now) f → (result ≡ Err f) ⊎ (result ≡ Err Memory) }
+    ensures first_fault { (f : VerifyFault) → FirstFault (five c.now s.now d.now e.now h.now) f → (result ≡ Err f) ⊎ (result ≡ Err VerifyFault.Memory) }
 {
     knox_sexpr::one_meaning();
     judge(alloc, c, s, d, e, h)

@@ -1,6 +1,5 @@
 use Rattle.std.proofs.Common.{◌≡◌, drop}
-use Rattle.knox_edge.specs.Shelf.{entry_of}
-use Rattle.knox_edge.specs.Texts.{named_of}
+use Rattle.knox_edge.specs.{Shelf.entry_of, Texts.named_of}
 use Rattle.knox_edge.proofs.memory.entry.Given as goal
 
 abbrev pub invariant-loop-called : goal.invariant-loop-called

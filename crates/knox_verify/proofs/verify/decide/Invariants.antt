@@ -1,5 +1,4 @@
-use Rattle.knox_theory.specs.Segments.{segments}
-use Rattle.knox_verify.specs.Judgements.{parts_of, design, hints}
+use Rattle.knox_verify.specs.{Words.segments, Judgements.parts_of, Judgements.design, Judgements.hints}
 use Rattle.knox_verify.proofs.Deciding.{HoldBelow}
 use Rattle.knox_verify.proofs.verify.decide.Given as goal
 
