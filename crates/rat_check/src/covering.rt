@@ -47,13 +47,7 @@ fn lesser(least: Option<u64>, id: u64) -> u64
 }
 
 /// The least of an id that was found before and of this one, if it is uncovered.
-fn with_id(
-    database: &Database,
-    lit: Lit,
-    hints: &[i64],
-    found: Option<u64>,
-    id: u64,
-) -> Option<u64>
+fn with_id(database: &Database, lit: Lit, hints: &[i64], found: Option<u64>, id: u64) -> Option<u64>
     ensures { result ≡ cond (is_left (live_clause database.now) lit (parts_of hints.now).groups id) (Some (lesser_of found id)) found }
 {
     if is_uncovered(database, lit, hints, id) {

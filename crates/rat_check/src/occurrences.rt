@@ -92,12 +92,7 @@ fn limit_for(vars: u64, clauses: usize) -> u64 {
 }
 
 /// Adds empty lists up to a place, if it is below a limit.
-fn widen(
-    alloc: Global,
-    lists: &mut Vec<Items<u64>>,
-    at: u64,
-    limit: u64,
-) -> Result<(), AllocError>
+fn widen(alloc: Global, lists: &mut Vec<Items<u64>>, at: u64, limit: u64) -> Result<(), AllocError>
     ensures { KeepsEach lists.old.items lists.new.items }
 {
     if at >= limit {

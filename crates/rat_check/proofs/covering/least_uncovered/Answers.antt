@@ -1,4 +1,4 @@
-use Rattle.std.proofs.Common.{◌≡◌, ◌<◌, ◌∙◌, ◌+◌, ap, sym, drop, length, get_or, rules, arith}
+use Rattle.std.proofs.Common.{◌<◌, ◌∙◌, ◌+◌, ap, sym, drop, length, arith}
 use Rattle.lrat_check.specs.Derivations.{live_clause}
 use Rattle.rat_check.specs.Groups.{parts_of}
 use Rattle.rat_check.specs.Rat.{is_uncovered}
@@ -10,6 +10,5 @@ pub loop-id-preserved : goal.loop-id-preserved
 loop-id-preserved c =
     let p = is_uncovered (live_clause c.args.database.now) c.args.lit (parts_of c.args.hints.now).groups in
     let lt : c.loop-id.id-index < length c.args.ids.now = omega arith in
-    let e : c.id-item.result ≡ get_or c.args.ids.now c.loop-id.id-index 0 = search rules in
     c.loop-id.invariant ∙ least-at p c.loop-id.least c.args.ids.now c.loop-id.id-index lt
-    ∙ ap (λ o. least_where p o (drop (c.loop-id.id-index + 1) c.args.ids.now)) (sym (rw e at c.with_id.ensures))
+    ∙ ap (λ o. least_where p o (drop (c.loop-id.id-index + 1) c.args.ids.now)) (sym c.with_id-least.ensures)

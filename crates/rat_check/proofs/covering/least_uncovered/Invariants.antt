@@ -8,4 +8,4 @@ use Rattle.rat_check.proofs.covering.least_uncovered.Given as goal
 abbrev pub invariant-loop-id : goal.invariant-loop-id
 invariant-loop-id l =
     let p = is_uncovered (live_clause l.database) l.lit (parts_of l.hints).groups in
-    least_where p l.found l.ids ≡ least_where p l.least (drop l.id-index l.ids)
+    least_where p l.fn.found l.ids ≡ least_where p l.least (drop l.id-index l.ids)
