@@ -1,8 +1,8 @@
 -- The least number that passes a test, in a list that has all that pass and in one that rises.
-use Rattle.std.proofs.Common.{◌≡◌, ℕ, zero, suc, ◌+◌, ◌<◌, ◌≤◌, ◌==◌, Bool, true, false, cond, ◌⊎◌, List, [], ◌∷◌, ◌++◌, length, drop, drop-cons, get_or, add-one, refl, sym, ◌∙◌, ap, subst, inl, inr, Option, Some, None, arith}
+use Rattle.std.proofs.Common.{◌≡◌, ℕ, suc, ◌+◌, ◌<◌, ◌≤◌, ◌==◌, Bool, true, false, cond, ◌⊎◌, List, [], ◌∷◌, ◌++◌, length, drop, drop-cons, get_or, add-one, refl, sym, ◌∙◌, ap, subst, inl, inr, Option, Some, None, arith}
 use Rattle.std.specs.Prelude.{nat_lt}
 use Rattle.std.specs.List.{find}
-use Rattle.std.proofs.lemmas.Bool.{true≢false, or_left, or_right, or_cases, eqb-true, eq-eqb, cases_Bool, ltb-true, ltb-false}
+use Rattle.std.proofs.lemmas.Bool.{true≢false, or_cases, eqb-true, cases_Bool, ltb-true, ltb-false}
 use Rattle.lrat_check.specs.Register.{Rises}
 use Rattle.lrat_check.proofs.PlaceLemmas.{Rises-tail}
 use Rattle.rat_check.specs.Occurrences.{among}
@@ -86,8 +86,15 @@ least-of p (Some b) [] = (inr refl, λ i h t. absurd (none-here i h), λ d e. le
 least-of p best (x ∷ xs) = least-step p best x xs (p x) (least_where p (cond (p x) (Some (lesser best x)) best) xs) refl (least-of p (cond (p x) (Some (lesser best x)) best) xs)
 
 -- one number more
-pub least-at : (p : ℕ → Bool) (best : Option ℕ) (ids : List ℕ) (at : ℕ) → at < length ids → least_where p best (drop at ids) ≡ least_where p (cond (p (get_or ids at 0)) (Some (lesser best (get_or ids at 0))) best) (drop (at + 1) ids)
+least-at : (p : ℕ → Bool) (best : Option ℕ) (ids : List ℕ) (at : ℕ) → at < length ids → least_where p best (drop at ids) ≡ least_where p (cond (p (get_or ids at 0)) (Some (lesser best (get_or ids at 0))) best) (drop (at + 1) ids)
 least-at p best ids at lt = rw (add-one, drop-cons ids at 0) refl
+
+-- a number that passes, or doesn't
+pub least-found : (p : ℕ → Bool) (best now start : Option ℕ) (ids : List ℕ) (at : ℕ) → at < length ids → now ≡ cond (p (get_or ids at 0)) (Some (lesser best (get_or ids at 0))) best → start ≡ least_where p best (drop at ids) → start ≡ least_where p now (drop (at + 1) ids)
+least-found p best now start ids at lt e k = k ∙ least-at p best ids at lt ∙ ap (λ o. least_where p o (drop (at + 1) ids)) (sym e)
+
+pub least-passed : (p : ℕ → Bool) (best now start : Option ℕ) (ids : List ℕ) (at : ℕ) → at < length ids → p (get_or ids at 0) ≡ false → now ≡ best → start ≡ least_where p best (drop at ids) → start ≡ least_where p now (drop (at + 1) ids)
+least-passed p best now start ids at lt f e = least-found p best now start ids at lt (e ∙ ap (λ b. cond b (Some (lesser best (get_or ids at 0))) best) (sym f))
 
 least-append : (p : ℕ → Bool) (best : Option ℕ) (xs ys : List ℕ) → least_where p best (xs ++ ys) ≡ least_where p (least_where p best xs) ys
 least-append p best [] ys = refl

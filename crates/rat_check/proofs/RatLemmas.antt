@@ -1,12 +1,11 @@
 -- The answers of groups, of the pivot and of a lemma, part by part.
-use Rattle.std.proofs.Common.{◌≡◌, ℕ, suc, ◌+◌, ◌-◌, ◌<◌, Bool, true, false, cond, List, [], ◌∷◌, ◌++◌, length, take, drop, drop-cons, get_or, add-one, refl, sym, ◌∙◌, ap, subst, inl, inr, Option, Some, None, Result, Ok, Err, map, arith}
+use Rattle.std.proofs.Common.{◌≡◌, ℕ, Bool, true, false, cond, List, [], ◌∷◌, take, drop, refl, sym, ◌∙◌, ap, subst, inl, inr, Option, Result, Ok, Err, map}
 use Rattle.std.specs.Prelude.{ℤ, unsigned_abs}
 use Rattle.std.specs.List.{list_any, find}
 use Rattle.knox_cnf.specs.Literals.{Literal, complement, has}
 use Rattle.lrat_check.specs.declared.step.Step.{Step}
 use Rattle.lrat_check.specs.declared.step.Step.TheVariants.{Memory as Full}
 use Rattle.lrat_check.specs.Marks.{all_with_true}
-use Rattle.lrat_check.specs.Register.{numbers_from}
 use Rattle.lrat_check.specs.Hints.{after_hints, is_tautology, Takes}
 use Rattle.rat_check.specs.declared.rat_step.RatStep.{RatStep}
 use Rattle.rat_check.specs.declared.rat_step.RatStep.TheVariants.{NoConflict}

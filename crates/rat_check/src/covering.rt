@@ -9,7 +9,7 @@ ghost use Rattle.rat_check.specs.Rat.{is_uncovered as is_left};
 ghost use Rattle.rat_check.specs.Covering.{lesser as lesser_of, least_where};
 ghost use Rattle.rat_check.specs.Occurrences.{AreListed};
 
-use crate::grouping::is_grouped;
+use crate::grouping::{behind_group, is_grouped};
 use crate::occurrences::Occurrences;
 use knox_cnf::Lit;
 use lrat_check::Database;
@@ -57,7 +57,7 @@ fn with_id(database: &Database, lit: Lit, hints: &[i64], found: Option<u64>, id:
     }
 }
 
-/// .. and of these.
+/// .. and of these. Groups that stand in the order of the ids are passed one after another.
 fn least_uncovered(
     database: &Database,
     lit: Lit,
@@ -68,8 +68,12 @@ fn least_uncovered(
     ensures { result ≡ least_where (is_left (live_clause database.now) lit (parts_of hints.now).groups) found ids.now }
 {
     let mut least = found;
+    let mut left = hints;
     for id in ids {
-        least = with_id(database, lit, hints, least, *id);
+        match behind_group(left, *id) {
+            Some(rest) => left = rest,
+            None => least = with_id(database, lit, hints, least, *id),
+        }
     }
     least
 }
