@@ -9,7 +9,6 @@ use Rattle.knox_cnf.specs.Literals.{Literal, has}
 use Rattle.knox_cnf.specs.Formulas.{clause_true, clauses_true}
 use Rattle.knox_cnf.specs.declared.formula.Cnf.{Cnf}
 use Rattle.lrat_check.specs.declared.lemma.Lemma.{Lemma}
-use Rattle.lrat_check.specs.Marks.{index_of}
 use Rattle.lrat_check.specs.Register.{Entries, Rises, all_ids, numbers_from, place_in, place_of, later, if_live, live_place, deleted, delete_then, without, is_new}
 use Rattle.lrat_check.specs.Derivations.{Proof, proof, start_of, lemma, with_lemma, id_of, lits_of, clauses_with, entries_with, entries_of, clause_at, live_in, live_clause, is_empty, is_closed}
 use Rattle.lrat_check.specs.Soundness.{IsUnsatisfiable}
@@ -18,13 +17,13 @@ use Rattle.lrat_check.proofs.Sound.{has-empty, at-true, at-more, all-true}
 use Rattle.rat_check.specs.declared.occurrences.Occurrences.{Occurrences}
 use Rattle.rat_check.specs.Groups.{Group, has_group}
 use Rattle.rat_check.specs.Rat.{holds_in, is_uncovered}
-use Rattle.rat_check.specs.Covering.{least_where}
-use Rattle.rat_check.specs.Occurrences.{list_at, Extends, Lists, AreListed}
+use Rattle.rat_check.specs.Covering.{IsLeast}
+use Rattle.rat_check.specs.Occurrences.{ids_of, Extends, Lists, AreListed}
 use Rattle.rat_check.specs.Soundness.{AllTrue, StaysSatisfiable}
 use Rattle.rat_check.specs.Refutations.{IsShown}
 use Rattle.rat_check.specs.Kept.{Kept}
 use Rattle.rat_check.proofs.OccurrenceLemmas.{Lists-then}
-use Rattle.rat_check.proofs.CoveringLemmas.{least-first}
+use Rattle.rat_check.proofs.CoveringLemmas.{least-find}
 use Rattle.rat_check.proofs.Sound.{AreNamed, Together, check-sound}
 
 -- ---- live clauses have ids
@@ -328,8 +327,8 @@ left-holds : (clause : ℕ → Option (List Literal)) (q : Literal) (gs : List G
 left-holds clause q gs i h = holds-some (clause i) q (and_parts (holds_in (clause i) q) (not (has_group gs i)) h).0
 
 -- the least clause that is left among those that are listed for the literal
-pub first-left : (d : Proof) (o : Occurrences) (q : Literal) (gs : List Group) → Rises (all_ids (entries_of d)) → AreListed d o → least_where (is_uncovered (live_clause d) q gs) (least_where (is_uncovered (live_clause d) q gs) None (list_at o.near.items (index_of q))) o.far ≡ find (is_uncovered (live_clause d) q gs) (all_ids (entries_of d))
-first-left d o q gs rises listed =
-    least-first (is_uncovered (live_clause d) q gs) (list_at o.near.items (index_of q)) o.far (all_ids (entries_of d)) rises
+pub first-left : (d : Proof) (o : Occurrences) (q : Literal) (gs : List Group) (r : Option ℕ) → Rises (all_ids (entries_of d)) → AreListed d o → IsLeast (is_uncovered (live_clause d) q gs) None (ids_of o q) r → r ≡ find (is_uncovered (live_clause d) q gs) (all_ids (entries_of d))
+first-left d o q gs r rises listed =
+    least-find (is_uncovered (live_clause d) q gs) (ids_of o q) (all_ids (entries_of d)) r rises
     (λ i h. let l = left-holds (live_clause d) q gs i h in live-named (entries_of d) (clauses_with d.cnf.clauses d.lemmas) i l.0 l.1)
     (λ i h. let l = left-holds (live_clause d) q gs i h in (listed.each i l.0 l.1).each q l.2)

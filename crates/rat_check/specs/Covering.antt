@@ -1,11 +1,13 @@
 -- The least number of a list that passes a test.
-use Rattle.std.specs.Prelude.{ℕ, nat_lt, Bool, cond, List, [], ◌∷◌, Option, Some, None}
+use Rattle.std.specs.Prelude.{ℕ, ◌≡◌, ◌≤◌, ◌⊎◌, Bool, true, List, Option, Some, None}
+use Rattle.rat_check.specs.Occurrences.{among}
 
-abbrev pub lesser : Option ℕ → ℕ → ℕ
-lesser None x = x
-lesser (Some b) x = cond (nat_lt b x) b x
+abbrev pub AtMost : Option ℕ → ℕ → Type 0
+AtMost None i = ⊥
+AtMost (Some m) i = m ≤ i
 
--- .. where an earlier list had one, or none
-abbrev pub least_where : (ℕ → Bool) → Option ℕ → List ℕ → Option ℕ
-least_where p best [] = best
-least_where p best (x ∷ xs) = least_where p (cond (p x) (Some (lesser best x)) best) xs
+-- the least of one that was found before and of those that pass, or none where there are none
+pub record IsLeast (p : ℕ → Bool) (found : Option ℕ) (ids : List ℕ) (least : Option ℕ) : Type 0 where
+  pub one : (m : ℕ) → least ≡ Some m → (p m ≡ true) ⊎ (found ≡ Some m)
+  pub old : (b : ℕ) → found ≡ Some b → AtMost least b
+  pub each : (i : ℕ) → among ids i ≡ true → p i ≡ true → AtMost least i

@@ -1,12 +1,12 @@
 //! Which live clauses hold the pivot's complement and have no group.
-ghost use Rattle.std.specs.Prelude.{◌≡◌, cond};
+ghost use Rattle.std.specs.Prelude.{◌≡◌, ◌≤◌, ◌⊎◌, ℕ, [], ◌∷◌, Some};
 ghost use Rattle.std.specs.List.{find};
 ghost use Rattle.knox_cnf.specs.Literals.{has, same_literal};
 ghost use Rattle.lrat_check.specs.Register.{all_ids, Rises};
 ghost use Rattle.lrat_check.specs.Derivations.{entries_of, live_clause};
 ghost use Rattle.rat_check.specs.Groups.{parts_of};
 ghost use Rattle.rat_check.specs.Rat.{is_uncovered as is_left};
-ghost use Rattle.rat_check.specs.Covering.{lesser as lesser_of, least_where};
+ghost use Rattle.rat_check.specs.Covering.{IsLeast};
 ghost use Rattle.rat_check.specs.Occurrences.{AreListed};
 
 use crate::grouping::{behind_group, is_grouped};
@@ -37,10 +37,12 @@ fn is_uncovered(database: &Database, lit: Lit, hints: &[i64], id: u64) -> bool
     }
 }
 
-fn lesser(least: Option<u64>, id: u64) -> u64
-    ensures { result ≡ lesser_of least id }
+fn lesser(found: Option<u64>, id: u64) -> u64
+    ensures new { result ≤ id }
+    ensures old { (b : ℕ) → found ≡ Some b → result ≤ b }
+    ensures one { (result ≡ id) ⊎ (found ≡ Some result) }
 {
-    match least {
+    match found {
         Some(other) if other < id => other,
         _ => id,
     }
@@ -48,7 +50,7 @@ fn lesser(least: Option<u64>, id: u64) -> u64
 
 /// The least of an id that was found before and of this one, if it is uncovered.
 fn with_id(database: &Database, lit: Lit, hints: &[i64], found: Option<u64>, id: u64) -> Option<u64>
-    ensures { result ≡ cond (is_left (live_clause database.now) lit (parts_of hints.now).groups id) (Some (lesser_of found id)) found }
+    ensures { IsLeast (is_left (live_clause database.now) lit (parts_of hints.now).groups) found (id ∷ []) result }
 {
     if is_uncovered(database, lit, hints, id) {
         Some(lesser(found, id))
@@ -65,7 +67,7 @@ fn least_uncovered(
     found: Option<u64>,
     ids: &[u64],
 ) -> Option<u64>
-    ensures { result ≡ least_where (is_left (live_clause database.now) lit (parts_of hints.now).groups) found ids.now }
+    ensures { IsLeast (is_left (live_clause database.now) lit (parts_of hints.now).groups) found ids.now result }
 {
     let mut least = found;
     let mut left = hints;
