@@ -123,6 +123,29 @@ choose-second ns c a b x h w is one = record {
   gives = λ v. ap (λ (t : Bool). if t then value v ns a else value v ns b) (sym (ap (λ (y : Bits). y.value == 1) (is.each v) ∙ one)) ∙ sym (chosen (value v ns c) (value v ns a) (value v ns b) (alike ns a b w v));
 }
 
+-- a choice whose condition is turned
+
+turned-choice : (c a b : Bits) → IsWord c → c.width ≡ 1 → a.width ≡ b.width → ite_or (op1_value Not c) b a ≡ ite_or c a b
+turned-choice c a b is one same =
+    chosen (op1_value Not c) b a (sym same)
+    ∙ (ap (λ (k : ℕ). if (2 ^ k - 1 - c.value) == 1 then b else a) one
+    ∙ (other c.value (subst (λ (k : ℕ). c.value < 2 ^ k) one is.fits) ∙ sym (chosen c a b same)))
+  where
+    other : (n : ℕ) → n < 2 → (if (1 - n) == 1 then b else a) ≡ (if n == 1 then a else b)
+    other zero h = refl
+    other (suc zero) h = refl
+    other (suc (suc n)) h = absurd (omega arith)
+
+pub undone-width : (ns : List Node) (c d : ℕ) → Gives ns d (λ v. op1_value Not (value v ns c)) → width_of ns d ≡ width_of ns c
+undone-width ns c d g = ap (λ (x : Bits). x.width) (g.gives [])
+
+pub gives-turned_choice : (old new : List Node) (t c d a b : ℕ) → Gives old d (λ v. op1_value Not (value v old c)) → width_of old c ≡ 1 → width_of old a ≡ width_of old b → Gives new t (λ v. ite_or (value v old d) (value v old b) (value v old a)) → Gives new t (λ v. ite_or (value v old c) (value v old a) (value v old b))
+gives-turned_choice old new t c d a b n one same g = gives-same new t _ _ g (λ v.
+    ap (λ (x : Bits). ite_or x (value v old b) (value v old a)) (n.gives v)
+    ∙ turned-choice (value v old c) (value v old a) (value v old b) (value-IsWord v old c) (value-width v old c ∙ one) (alike old a b same v))
+
+pub ruleset turning_choice = (undone-width, gives-turned_choice)
+
 pub ruleset choosing = (choose-equal, choose-first, choose-second)
 
 -- an operator that undoes another

@@ -285,9 +285,9 @@ impl Graph {
         self.place_of(Node::Slice(a, high, low), high - low + 1)
     }
 
-    /// `a` where `c`, of width 1, is 1, and else `b`, of the same width. `Err` is want of memory.
+    /// `a` where `c` is 1, and else `b`, where the condition is not turned.
     #[tactic(auto, using(crate::proofs::FoldLemmas::folding, crate::proofs::FoldLemmas::choosing))]
-    pub fn ite(&mut self, c: Term, a: Term, b: Term) -> Result<Term, AllocError>
+    fn choice(&mut self, c: Term, a: Term, b: Term) -> Result<Term, AllocError>
         requires condition { c < length self.old }
         requires first { a < length self.old }
         requires second { b < length self.old }
@@ -307,5 +307,23 @@ impl Graph {
         }
         let width = self.width(a);
         self.place_of(Node::Ite(c, a, b), width)
+    }
+
+    /// `a` where `c`, of width 1, is 1, and else `b`, of the same width. `Err` is want of memory.
+    #[tactic(auto, using(crate::proofs::FoldLemmas::turning_choice))]
+    pub fn ite(&mut self, c: Term, a: Term, b: Term) -> Result<Term, AllocError>
+        requires condition { c < length self.old }
+        requires first { a < length self.old }
+        requires second { b < length self.old }
+        requires bit { width_of self.old c ≡ 1 }
+        requires same { width_of self.old a ≡ width_of self.old b }
+        ensures kept { Keeps self.old self.new }
+        ensures value { IfOk result (λ t. Gives self.new t (λ v. ite_or (value v self.old c) (value v self.old a) (value v self.old b))) }
+    {
+        if let Some(d) = self.undone(Op1::Not, c) {
+            let t = self.choice(d, b, a)?;
+            return Ok(t);
+        }
+        self.choice(c, a, b)
     }
 }
