@@ -95,7 +95,7 @@ fold-slice old new t a h l x is g = gives-same new t _ _ g (λ v. ap (λ (y : Bi
 
 -- a choice whose arms are equal, or whose condition is a word
 
-chosen : (c a b : Bits) → a.width ≡ b.width → ite_or c a b ≡ ite_value c a b
+pub chosen : (c a b : Bits) → a.width ≡ b.width → ite_or c a b ≡ ite_value c a b
 chosen c a b h = ap (λ (t : Bool). if t then ite_value c a b else bits 1 0) (subst (λ (k : ℕ). (a.width == k) ≡ true) h (nat_eq_equiv.refl a.width))
 
 alike : (ns : List Node) (a b : ℕ) → width_of ns a ≡ width_of ns b → (v : List Bits) → (value v ns a).width ≡ (value v ns b).width

@@ -6,3 +6,4 @@ pub mod SignLemmas
 pub mod RuleLemmas
 pub mod ExtendLemmas
 pub mod BecomeLemmas
+pub mod ChoiceLemmas

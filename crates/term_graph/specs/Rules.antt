@@ -1,6 +1,6 @@
 -- The rules by which an operator on two terms is simplified, as tables. No public clause cites them: every value stays as it is.
 -- The project's own.
-use Rattle.std.specs.Prelude.{ℕ, ◌≡◌, ◌==◌, ◌<◌, ◌-◌, ◌^◌, List, length, Bool, true, false, Option, Some, None, if◌then◌else◌}
+use Rattle.std.specs.Prelude.{ℕ, ◌≡◌, ◌==◌, ◌<◌, ◌-◌, ◌^◌, List, [], length, Bool, true, false, Option, Some, None, if◌then◌else◌}
 use Rattle.std.specs.Option.{ForSome}
 use Rattle.knox_words.specs.Bits.{Bits, word_or}
 use Rattle.knox_words.specs.Ops.{op1_value, op2_or, fits2_of, sext_or, uext_or, slice_or}
@@ -11,7 +11,7 @@ use Rattle.knox_words.specs.declared.op.Op2.TheVariants as op2
 use Rattle.term_graph.specs.declared.node.Node.{Node}
 use Rattle.term_graph.specs.declared.rules.Rule.{Rule}
 use Rattle.term_graph.specs.declared.rules.Rule.TheVariants.{Itself, Turned, Word}
-use Rattle.term_graph.specs.Value.{value, width_of}
+use Rattle.term_graph.specs.Value.{value, width_of, ite_or}
 
 -- what a term becomes by a rule
 abbrev pub ruled : Rule → Bits → Bits
@@ -157,6 +157,12 @@ pub record Narrows (ns : List Node) (o : Op2) (a b : ℕ) (d : Option Bits) (x :
   pub within : x < length ns
   pub fits : ForSome d (λ y. fits2_of o y.width (width_of ns x) ≡ true)
   pub same : (v : List Bits) → narrow_value o d (value v ns x) ≡ op2_or o (value v ns a) (value v ns b)
+
+-- a choice between two terms of width 1 is an operator on what a rule makes of the condition, and a term
+pub record Chooses (ns : List Node) (c a b : ℕ) (o : Op2) (r : Rule) (x : ℕ) : Type 0 where
+  pub within : x < length ns
+  pub fits : fits2_of o (ruled r (value [] ns c)).width (width_of ns x) ≡ true
+  pub same : (v : List Bits) → op2_or o (ruled r (value v ns c)) (value v ns x) ≡ ite_or (value v ns c) (value v ns a) (value v ns b)
 
 -- a term that a rule takes to a value under each valuation
 pub record Becomes (ns : List Node) (t : ℕ) (r : Rule) (f : List Bits → Bits) : Type 0 where

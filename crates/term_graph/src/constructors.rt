@@ -1,11 +1,11 @@
 //! The constructors of terms, which simplify. Each keeps the value of every older term under every
 //! valuation, also where memory runs out, and makes no variable.
-ghost use Rattle.std.specs.Prelude.{◌≡◌, ◌+◌, ◌<◌, ◌≤◌, length, IfOk, IsTrue, IfSome, true};
+ghost use Rattle.std.specs.Prelude.{◌≡◌, ◌+◌, ◌<◌, ◌≤◌, length, IfOk, IsTrue, IfSome, true, []};
 ghost use Rattle.std.specs.Option.{ForSome};
 ghost use Rattle.knox_words.specs.Ops.{op1_value, op2_or, fits2_of, sext_or, uext_or, slice_or};
 ghost use Rattle.term_graph.specs.Value.{value, width_of, ite_or};
 ghost use Rattle.term_graph.specs.Kept.{Keeps, Gives, IsAlways};
-ghost use Rattle.term_graph.specs.Rules.{ruled, Becomes, Narrows, narrow_value};
+ghost use Rattle.term_graph.specs.Rules.{ruled, Becomes, Chooses, Narrows, narrow_value};
 
 use crate::graph::Graph;
 use crate::node::{Node, Term};
@@ -285,8 +285,49 @@ impl Graph {
         self.place_of(Node::Slice(a, high, low), high - low + 1)
     }
 
+    /// The operator for a choice between two terms of width 1 of which one is a word, with what the
+    /// condition becomes and the other term.
+    fn bit_choice(&self, c: Term, a: Term, b: Term) -> Option<(Op2, Rule, Term)>
+        requires condition { c < length self.now }
+        requires first { a < length self.now }
+        requires second { b < length self.now }
+        requires bit { width_of self.now c ≡ 1 }
+        requires same { width_of self.now a ≡ width_of self.now b }
+        ensures { IfSome result (λ r. Chooses self.now c a b r.0 r.1 r.2) }
+    {
+        if self.width(a) != 1 {
+            return None;
+        }
+        if let Some(y) = self.constant(b) {
+            if y.value() == 0 {
+                return Some((Op2::And, Rule::Itself, a));
+            }
+            return Some((Op2::Or, Rule::Turned, a));
+        }
+        if let Some(x) = self.constant(a) {
+            if x.value() == 0 {
+                return Some((Op2::And, Rule::Turned, b));
+            }
+            return Some((Op2::Or, Rule::Itself, b));
+        }
+        None
+    }
+
+    /// An operator on what a rule makes of a term, and another term.
+    fn ruled_bin(&mut self, o: Op2, c: Term, rule: Rule, x: Term) -> Result<Term, AllocError>
+        requires condition { c < length self.old }
+        requires other { x < length self.old }
+        requires fits { fits2_of o (ruled rule (value [] self.old c)).width (width_of self.old x) ≡ true }
+        ensures kept { Keeps self.old self.new }
+        ensures value { IfOk result (λ t. Gives self.new t (λ v. op2_or o (ruled rule (value v self.old c)) (value v self.old x))) }
+    {
+        let d = self.apply(c, rule)?;
+        let t = self.bin(o, d, x)?;
+        Ok(t)
+    }
+
     /// `a` where `c` is 1, and else `b`, where the condition is not turned.
-    #[tactic(auto, using(crate::proofs::FoldLemmas::folding, crate::proofs::FoldLemmas::choosing))]
+    #[tactic(auto, using(crate::proofs::FoldLemmas::folding, crate::proofs::FoldLemmas::choosing, crate::proofs::ChoiceLemmas::choosing_bits))]
     fn choice(&mut self, c: Term, a: Term, b: Term) -> Result<Term, AllocError>
         requires condition { c < length self.old }
         requires first { a < length self.old }
@@ -304,6 +345,10 @@ impl Graph {
                 return Ok(a);
             }
             return Ok(b);
+        }
+        if let Some((o, rule, x)) = self.bit_choice(c, a, b) {
+            let t = self.ruled_bin(o, c, rule, x)?;
+            return Ok(t);
         }
         let width = self.width(a);
         self.place_of(Node::Ite(c, a, b), width)
