@@ -1,19 +1,20 @@
 -- What constructors give: the widths of new nodes, and terms whose operands are words under every valuation.
-use Rattle.std.proofs.Common.{◌≡◌, ℕ, ◌+◌, ◌-◌, ◌<◌, ◌≤◌, ◌==◌, List, [], append-nil, length, take, slice_get, Some, ◌^◌, Bool, true, false, refl, sym, ap, ◌∙◌, subst, arith, if◌then◌else◌}
+use Rattle.std.proofs.Common.{◌≡◌, ℕ, zero, suc, ◌+◌, ◌-◌, ◌*◌, ◌%◌, ◌<◌, ◌≤◌, ◌==◌, List, [], append-nil, append_assoc, ◌++◌, length, length-append, take, slice_get, Some, ◌^◌, Bool, true, false, refl, sym, ap, ◌∙◌, subst, arith, if◌then◌else◌}
 use Rattle.std.proofs.lemmas.Bool.{le-leb, lt-ltb}
 use Rattle.std.proofs.lemmas.List.{length-take-le}
+use Rattle.std.proofs.Math.Nat.{mod_self, mod-eq_of_lt, mod-add-mod, add-mul-mod_self_right}
 use Rattle.std.specs.Cmp.{nat_eq_equiv}
 use Rattle.knox_words.specs.Bits.{Bits, bits, IsWord, word_or, ite_value}
 use Rattle.knox_words.specs.Ops.{op1_value, op2_value, op2_or, op1_width, op2_width, fits2_of, sext_or, uext_or, slice_or, sext_value, uext_value}
 use Rattle.knox_words.specs.declared.op.Op1.{Op1}
-use Rattle.knox_words.specs.declared.op.Op1.TheVariants.{Not}
+use Rattle.knox_words.specs.declared.op.Op1.TheVariants.{Not, Neg, Inc, Dec}
 use Rattle.knox_words.specs.declared.op.Op2.{Op2}
 use Rattle.knox_words.proofs.Results.{op1_value-width, op2_value-width}
 use Rattle.term_graph.specs.declared.node.Node.{Node}
 use Rattle.term_graph.specs.declared.node.Node.TheVariants as node
 use Rattle.term_graph.specs.Value.{value, width_of, ite_or}
 use Rattle.term_graph.specs.Built.{IsBuilt}
-use Rattle.term_graph.specs.Rules.{is_not}
+use Rattle.term_graph.specs.Rules.{undoes}
 use Rattle.term_graph.proofs.ValueLemmas.{value-node}
 use Rattle.term_graph.proofs.WidthLemmas.{value-width, value-IsWord}
 use Rattle.term_graph.specs.Kept.{Keeps, Gives, IsAlways}
@@ -53,6 +54,25 @@ pub ruleset new_widths = (width-word, width-un, width-bin, width-sext, width-uex
 pub keeps-same : (ns : List Node) → Keeps ns ns
 keeps-same ns = record { more = []; longer = sym (append-nil ns); vars = refl; values = λ v t h. refl }
 
+pub keeps-within : (a b : List Node) (t : ℕ) → Keeps a b → t < length a → t < length b
+keeps-within a b t p h = omega (arith, ap length p.longer, length-append a p.more)
+
+pub keeps-on : (a b c : List Node) → Keeps a b → Keeps b c → Keeps a c
+keeps-on a b c p q = record {
+  more = p.more ++ q.more;
+  longer = q.longer ∙ (ap (λ (ns : List Node). ns ++ q.more) p.longer ∙ append_assoc a p.more q.more);
+  vars = q.vars ∙ p.vars;
+  values = λ v t h. q.values v t (keeps-within a b t p h) ∙ p.values v t h;
+}
+
+pub keeps-width : (a b : List Node) (t : ℕ) → Keeps a b → t < length a → width_of b t ≡ width_of a t
+keeps-width a b t p h = ap (λ (x : Bits). x.width) (p.values [] t h)
+
+pub gives-width : (ns : List Node) (t : ℕ) (x : Bits) → Gives ns t (λ v. x) → width_of ns t ≡ x.width
+gives-width ns t x g = ap (λ (y : Bits). y.width) (g.gives [])
+
+pub ruleset keeping = (keeps-on, keeps-within)
+
 pub gives-same : (ns : List Node) (t : ℕ) (f g : List Bits → Bits) → Gives ns t f → ((v : List Bits) → f v ≡ g v) → Gives ns t g
 gives-same ns t f g is same = record { within = is.within; gives = λ v. is.gives v ∙ same v }
 
@@ -75,7 +95,7 @@ fold-slice old new t a h l x is g = gives-same new t _ _ g (λ v. ap (λ (y : Bi
 
 -- a choice whose arms are equal, or whose condition is a word
 
-chosen : (c a b : Bits) → a.width ≡ b.width → ite_or c a b ≡ ite_value c a b
+pub chosen : (c a b : Bits) → a.width ≡ b.width → ite_or c a b ≡ ite_value c a b
 chosen c a b h = ap (λ (t : Bool). if t then ite_value c a b else bits 1 0) (subst (λ (k : ℕ). (a.width == k) ≡ true) h (nat_eq_equiv.refl a.width))
 
 alike : (ns : List Node) (a b : ℕ) → width_of ns a ≡ width_of ns b → (v : List Bits) → (value v ns a).width ≡ (value v ns b).width
@@ -103,25 +123,69 @@ choose-second ns c a b x h w is one = record {
   gives = λ v. ap (λ (t : Bool). if t then value v ns a else value v ns b) (sym (ap (λ (y : Bits). y.value == 1) (is.each v) ∙ one)) ∙ sym (chosen (value v ns c) (value v ns a) (value v ns b) (alike ns a b w v));
 }
 
+-- a choice whose condition is turned
+
+turned-choice : (c a b : Bits) → IsWord c → c.width ≡ 1 → a.width ≡ b.width → ite_or (op1_value Not c) b a ≡ ite_or c a b
+turned-choice c a b is one same =
+    chosen (op1_value Not c) b a (sym same)
+    ∙ (ap (λ (k : ℕ). if (2 ^ k - 1 - c.value) == 1 then b else a) one
+    ∙ (other c.value (subst (λ (k : ℕ). c.value < 2 ^ k) one is.fits) ∙ sym (chosen c a b same)))
+  where
+    other : (n : ℕ) → n < 2 → (if (1 - n) == 1 then b else a) ≡ (if n == 1 then a else b)
+    other zero h = refl
+    other (suc zero) h = refl
+    other (suc (suc n)) h = absurd (omega arith)
+
+pub undone-width : (ns : List Node) (c d : ℕ) → Gives ns d (λ v. op1_value Not (value v ns c)) → width_of ns d ≡ width_of ns c
+undone-width ns c d g = ap (λ (x : Bits). x.width) (g.gives [])
+
+pub gives-turned_choice : (old new : List Node) (t c d a b : ℕ) → Gives old d (λ v. op1_value Not (value v old c)) → width_of old c ≡ 1 → width_of old a ≡ width_of old b → Gives new t (λ v. ite_or (value v old d) (value v old b) (value v old a)) → Gives new t (λ v. ite_or (value v old c) (value v old a) (value v old b))
+gives-turned_choice old new t c d a b n one same g = gives-same new t _ _ g (λ v.
+    ap (λ (x : Bits). ite_or x (value v old b) (value v old a)) (n.gives v)
+    ∙ turned-choice (value v old c) (value v old a) (value v old b) (value-IsWord v old c) (value-width v old c ∙ one) (alike old a b same v))
+
+pub ruleset turning_choice = (undone-width, gives-turned_choice)
+
 pub ruleset choosing = (choose-equal, choose-first, choose-second)
 
--- every bit turned twice
+-- an operator that undoes another
 
-not-not : (x : Bits) → IsWord x → op1_value Not (op1_value Not x) ≡ x
-not-not x is =
+negated-twice : (a m : ℕ) → a < m → (m - (m - a) % m) % m ≡ a
+negated-twice zero m h =
+    let whole : m - 0 ≡ m = omega arith in
+    ap (λ (n : ℕ). (m - n % m) % m) whole ∙ (ap (λ (n : ℕ). (m - n) % m) (mod_self m) ∙ (ap (λ (n : ℕ). n % m) whole ∙ mod_self m))
+negated-twice (suc a) m h =
+    let less : m - suc a < m = omega arith in
+    let back : m - (m - suc a) ≡ suc a = omega arith in
+    ap (λ (n : ℕ). (m - n) % m) (mod-eq_of_lt less) ∙ (ap (λ (n : ℕ). n % m) back ∙ mod-eq_of_lt h)
+
+-- two steps that make a whole turn
+whole_turn : (a b c m : ℕ) → a < m → b + c ≡ m → ((a + b) % m + c) % m ≡ a
+whole_turn a b c m h e =
+    let sum : a + b + c ≡ a + 1 * m = omega arith in
+    mod-add-mod (a + b) m c ∙ (ap (λ (n : ℕ). n % m) sum ∙ (add-mul-mod_self_right a 1 m ∙ mod-eq_of_lt h))
+
+undone-value : (o i : Op1) (x : Bits) → IsWord x → undoes o i ≡ true → op1_value o (op1_value i x) ≡ x
+undone-value Not Not x is u =
     let below : x.value < 2 ^ x.width = is.fits in
     let back : 2 ^ x.width - 1 - (2 ^ x.width - 1 - x.value) ≡ x.value = omega arith in
     ap (bits x.width) back
+undone-value Neg Neg x is u = ap (bits x.width) (negated-twice x.value (2 ^ x.width) is.fits)
+undone-value Inc Dec x is u =
+    let below : x.value < 2 ^ x.width = is.fits in
+    ap (bits x.width) (whole_turn x.value (2 ^ x.width - 1) 1 (2 ^ x.width) is.fits (omega arith))
+undone-value Dec Inc x is u =
+    let below : x.value < 2 ^ x.width = is.fits in
+    ap (bits x.width) (whole_turn x.value 1 (2 ^ x.width - 1) (2 ^ x.width) is.fits (omega arith))
+undone-value _ _ x is u = cc
 
-pub gives-undone : (ns : List Node) (a x : ℕ) (o i : Op1) → IsBuilt ns → slice_get ns a ≡ Some (node.Un i x) → a < length ns → is_not o ≡ true → is_not i ≡ true → Gives ns x (λ v. op1_value o (value v ns a))
-gives-undone ns a x Not Not built e h p q =
-    let under : x < length (take a ns) = (built.each a (node.Un Not x) e).below in
+pub gives-undone : (ns : List Node) (a x : ℕ) (o i : Op1) → IsBuilt ns → slice_get ns a ≡ Some (node.Un i x) → a < length ns → undoes o i ≡ true → Gives ns x (λ v. op1_value o (value v ns a))
+gives-undone ns a x o i built e h u =
+    let under : x < length (take a ns) = (built.each a (node.Un i x) e).below in
     let long : length (take a ns) ≡ a = length-take-le a ns (omega arith) in
     record {
       within = omega arith;
-      gives = λ v. sym (ap (op1_value Not) (value-node v ns a (node.Un Not x) built e) ∙ not-not (value v ns x) (value-IsWord v ns x));
+      gives = λ v. sym (ap (op1_value o) (value-node v ns a (node.Un i x) built e) ∙ undone-value o i (value v ns x) (value-IsWord v ns x) u);
     }
-gives-undone ns a x Not _ built e h p q = cc
-gives-undone ns a x _ i built e h p q = cc
 
 pub ruleset folding = (keeps-same, fold-un, fold-bin, fold-sext, fold-uext, fold-slice, width-word, width-un, width-bin, width-sext, width-uext, width-slice, width-ite)

@@ -1,12 +1,13 @@
 -- Each rule keeps the operator's value.
-use Rattle.std.proofs.Common.{◌≡◌, ℕ, zero, suc, ◌+◌, ◌-◌, ◌*◌, ◌/◌, ◌%◌, ◌^◌, ◌<◌, ◌==◌, ◌||◌, nat_lt, bit_and, bit_or, bit_xor, Bool, true, false, Option, None, refl, sym, ap, ◌∙◌, subst, arith, if◌then◌else◌, eqb-true}
-use Rattle.std.specs.Prelude.{IfSome}
+use Rattle.std.proofs.Common.{◌≡◌, ℕ, zero, suc, ◌+◌, ◌-◌, ◌*◌, ◌/◌, ◌%◌, ◌^◌, ◌<◌, ◌==◌, ◌||◌, nat_lt, bit_and, bit_or, bit_xor, Bool, true, false, Option, Some, None, refl, sym, ap, ◌∙◌, subst, arith, if◌then◌else◌, eqb-true}
+use Rattle.std.specs.Prelude.{IfSome, int_lt}
 use Rattle.std.specs.Int.Bits.{and_self, or_self, xor_self, and_zero_l, or_zero_l, xor_zero_l, or_add_and, xor_add_and}
 use Rattle.std.proofs.lemmas.Nat.{and_comm, or_comm, xor_comm, and_mask, pow_pos}
 use Rattle.std.proofs.Math.Nat.{mod_self, mod-eq_of_lt, add_comm, mul_comm, div-eq_of_lt, add-mul-mod_self_right, div-one}
 use Rattle.std.proofs.lemmas.Bool.{le-leb, le-ltb, and_parts, and_from, lt-ltb}
 use Rattle.std.specs.Cmp.{nat_eq_equiv}
 use Rattle.knox_words.specs.Bits.{Bits, bits, IsWord, word_or, truth}
+use Rattle.knox_words.specs.Signs.{sg}
 use Rattle.knox_words.specs.Ops.{op1_value, op2_value, op2_or, fits2_of}
 use Rattle.knox_words.specs.declared.op.Op1.TheVariants.{Not}
 use Rattle.knox_words.specs.declared.op.Op2.{Op2}
@@ -14,9 +15,11 @@ use Rattle.knox_words.specs.declared.op.Op2.TheVariants as op2
 use Rattle.knox_words.proofs.Lists.{word_or-zero}
 use Rattle.knox_words.proofs.Results.{op2_or-value}
 use Rattle.term_graph.specs.declared.rules.Rule.{Rule}
-use Rattle.term_graph.specs.Rules.{ruled, is_commutative, same_rule, first_rule, second_rule, at_ends}
+use Rattle.knox_words.proofs.Signed.{halves}
+use Rattle.term_graph.specs.Rules.{ruled, is_commutative, same_rule, first_rule, second_rule, at_ends, at_bit, at_one, at_least, at_greatest}
+use Rattle.term_graph.proofs.SignLemmas.{int_lt-same, int_le-same, int_le-from, not_below_least, not_above_greatest}
 
-word-is : (x : Bits) (w n : ℕ) → x.width ≡ w → x.value ≡ n → x ≡ bits w n
+pub word-is : (x : Bits) (w n : ℕ) → x.width ≡ w → x.value ≡ n → x ≡ bits w n
 word-is x w n p q = λ i. bits (p i) (q i)
 
 -- a term and itself
@@ -50,9 +53,13 @@ module _ (x : Bits) (is : IsWord x) where
   same-values op2.Eq h = ap truth (sym equal)
   same-values op2.Ugte h = ap truth (sym (le-leb x.value x.value (omega arith)))
   same-values op2.Ulte h = ap truth (sym (le-leb x.value x.value (omega arith)))
+  same-values op2.Sgte h = ap truth (sym (int_le-same (sg x.width x.value)))
+  same-values op2.Slte h = ap truth (sym (int_le-same (sg x.width x.value)))
   same-values op2.Neq h = ap (λ (t : Bool). truth (if t then false else true)) (sym equal)
   same-values op2.Ugt h = ap truth (sym (le-ltb x.value x.value (omega arith)))
   same-values op2.Ult h = ap truth (sym (le-ltb x.value x.value (omega arith)))
+  same-values op2.Sgt h = ap truth (sym (int_lt-same (sg x.width x.value)))
+  same-values op2.Slt h = ap truth (sym (int_lt-same (sg x.width x.value)))
   same-values _ h = tt
 
 -- a rule at the ends of a word's range
@@ -66,6 +73,36 @@ ends c p q P is low high = by_test (c.value == 0) refl ((op1_value Not c).value 
         let below : c.value < 2 ^ c.width = is.fits in
         high (omega arith)
     by_test false e false f = tt
+
+-- the same at width 1, at 1, and at the ends of the range with a sign
+
+bit_ends : (c : Bits) (p q : Option Rule) (P : Rule → Type 0) → (c.width ≡ 1 → IfSome (at_ends c p q) P) → IfSome (at_bit c p q) P
+bit_ends c p q P h = by_test (c.width == 1) refl
+  where
+    by_test : (t : Bool) → (c.width == 1) ≡ t → IfSome (if t then at_ends c p q else None) P
+    by_test true e = h (eqb-true c.width 1 e)
+    by_test false e = tt
+
+by_one : (c : Bits) (p : Rule) (q : Option Rule) (P : Rule → Type 0) → (c.value ≡ 1 → P p) → IfSome q P → IfSome (at_one c p q) P
+by_one c p q P h other = by_test (c.value == 1) refl
+  where
+    by_test : (t : Bool) → (c.value == 1) ≡ t → IfSome (if t then Some p else q) P
+    by_test true e = h (eqb-true c.value 1 e)
+    by_test false e = other
+
+by_least : (c : Bits) (p : Rule) (P : Rule → Type 0) → (c.value ≡ 2 ^ (c.width - 1) → P p) → IfSome (at_least c p) P
+by_least c p P h = by_test (c.value == 2 ^ (c.width - 1)) refl
+  where
+    by_test : (t : Bool) → (c.value == 2 ^ (c.width - 1)) ≡ t → IfSome (if t then Some p else None) P
+    by_test true e = h (eqb-true c.value (2 ^ (c.width - 1)) e)
+    by_test false e = tt
+
+by_greatest : (c : Bits) (p : Rule) (P : Rule → Type 0) → IsWord c → (c.value ≡ 2 ^ (c.width - 1) - 1 → P p) → IfSome (at_greatest c p) P
+by_greatest c p P is h = by_least (op1_value Not c) p P (λ z.
+    let whole : 2 ^ c.width ≡ 2 ^ (c.width - 1) + 2 ^ (c.width - 1) = halves c.width is.wide in
+    let below : c.value < 2 ^ c.width = is.fits in
+    let turned : 2 ^ c.width - 1 - c.value ≡ 2 ^ (c.width - 1) = z in
+    h (omega arith))
 
 -- a word and a term of its width
 module _ (c x : Bits) (same : c.width ≡ x.width) (is : IsWord c) (word : IsWord x) where
@@ -148,6 +185,22 @@ module _ (c x : Bits) (same : c.width ≡ x.width) (is : IsWord c) (word : IsWor
     iff-ones : c.value ≡ 2 ^ c.width - 1 → x ≡ truth (c.value == x.value)
     iff-ones z = itself-small ∙ (ap (bits 1) (sym (same-one x.value small)) ∙ ap (λ (n : ℕ). truth (n == x.value)) (sym (full z)))
 
+    other-zero : (n : ℕ) → n < 2 → (if (if 0 == n then false else true) then 1 else 0) ≡ n
+    other-zero zero h = refl
+    other-zero (suc zero) h = refl
+    other-zero (suc (suc n)) h = absurd (omega arith)
+
+    other-one : (n : ℕ) → n < 2 → (if (if 1 == n then false else true) then 1 else 0) ≡ 1 - n
+    other-one zero h = refl
+    other-one (suc zero) h = refl
+    other-one (suc (suc n)) h = absurd (omega arith)
+
+    neq-zero : c.value ≡ 0 → x ≡ truth (if c.value == x.value then false else true)
+    neq-zero z = itself-small ∙ (ap (bits 1) (sym (other-zero x.value small)) ∙ ap (λ (n : ℕ). truth (if n == x.value then false else true)) (sym z))
+
+    neq-ones : c.value ≡ 2 ^ c.width - 1 → op1_value Not x ≡ truth (if c.value == x.value then false else true)
+    neq-ones z = turned-small ∙ (ap (bits 1) (sym (other-one x.value small)) ∙ ap (λ (n : ℕ). truth (if n == x.value then false else true)) (sym (full z)))
+
     implies-one : (n : ℕ) → n < 2 → bits 1 n ≡ truth (1 == 0 || n == 1)
     implies-one zero h = refl
     implies-one (suc zero) h = refl
@@ -168,7 +221,10 @@ module _ (c x : Bits) (same : c.width ≡ x.width) (is : IsWord c) (word : IsWor
       ends c _ _ (λ r. ruled r x ≡ op2_value op2.Add c x) is (λ z. itself _ (ap (λ (n : ℕ). (n + x.value) % 2 ^ c.width) z ∙ mod-eq_of_lt (let l : 0 + x.value < 2 ^ c.width = omega arith in l) ∙ omega arith)) (λ z. tt)
   first-values op2.Mul h =
       let some : 0 < 2 ^ c.width = pow_pos c.width in
-      ends c _ _ (λ r. ruled r x ≡ op2_value op2.Mul c x) is (λ z. constant _ (ap (λ (n : ℕ). n * x.value % 2 ^ c.width) z ∙ (mod-eq_of_lt (let l : 0 * x.value < 2 ^ c.width = omega arith in l) ∙ (omega (arith, z))))) (λ z. tt)
+      let less : 1 * x.value < 2 ^ c.width = omega (arith, below) in
+      let once : 1 * x.value ≡ x.value = omega arith in
+      by_one c _ _ (λ r. ruled r x ≡ op2_value op2.Mul c x) (λ z. itself _ (ap (λ (n : ℕ). n * x.value % 2 ^ c.width) z ∙ (mod-eq_of_lt less ∙ once)))
+      (ends c _ _ (λ r. ruled r x ≡ op2_value op2.Mul c x) is (λ z. constant _ (ap (λ (n : ℕ). n * x.value % 2 ^ c.width) z ∙ (mod-eq_of_lt (let l : 0 * x.value < 2 ^ c.width = omega arith in l) ∙ (omega (arith, z))))) (λ z. tt))
   first-values op2.Sll h = ends c _ _ (λ r. ruled r x ≡ op2_value op2.Sll c x) is (λ z. constant _ (shifted (nat_lt x.value c.width) z)) (λ z. tt)
     where
       shifted : (t : Bool) → c.value ≡ 0 → (if t then c.value * 2 ^ x.value % 2 ^ c.width else 0) ≡ c.value
@@ -191,6 +247,12 @@ module _ (c x : Bits) (same : c.width ≡ x.width) (is : IsWord c) (word : IsWor
   first-values op2.Iff h =
       let one : c.width ≡ 1 = eqb-true c.width 1 (and_parts (c.width == 1) (x.width == 1) h).0 in
       ends c _ _ (λ r. ruled r x ≡ op2_value op2.Iff c x) is (iff-zero one) (iff-ones one)
+  first-values op2.Eq h = bit_ends c _ _ (λ r. ruled r x ≡ op2_value op2.Eq c x) (λ bit. ends c _ _ (λ r. ruled r x ≡ op2_value op2.Eq c x) is (iff-zero bit) (iff-ones bit))
+  first-values op2.Neq h = bit_ends c _ _ (λ r. ruled r x ≡ op2_value op2.Neq c x) (λ bit. ends c _ _ (λ r. ruled r x ≡ op2_value op2.Neq c x) is (neq-zero bit) (neq-ones bit))
+  first-values op2.Slt h = by_greatest c _ (λ r. ruled r x ≡ op2_value op2.Slt c x) is (λ z. ap truth (sym (not_above_greatest c.width x.value c.value z)))
+  first-values op2.Slte h = by_least c _ (λ r. ruled r x ≡ op2_value op2.Slte c x) (λ z. ap truth (sym (int_le-from (sg c.width c.value) (sg c.width x.value) (not_below_least c.width x.value c.value z))))
+  first-values op2.Sgt h = by_least c _ (λ r. ruled r x ≡ op2_value op2.Sgt c x) (λ z. ap truth (sym (not_below_least c.width x.value c.value z)))
+  first-values op2.Sgte h = by_greatest c _ (λ r. ruled r x ≡ op2_value op2.Sgte c x) is (λ z. ap truth (sym (int_le-from (sg c.width x.value) (sg c.width c.value) (not_above_greatest c.width x.value c.value z))))
   first-values _ h = tt
 
   -- the word in the second place
@@ -210,6 +272,12 @@ module _ (c x : Bits) (same : c.width ≡ x.width) (is : IsWord c) (word : IsWor
 
     by-ones : c.value ≡ 2 ^ c.width - 1 → c ≡ truth (x.value == 0 || c.value == 1)
     by-ones z = word-is c 1 1 one (full one z) ∙ (implied-ones x.value (small one) ∙ ap (λ (n : ℕ). truth (x.value == 0 || n == 1)) (sym (full one z)))
+
+  not_below : c.value ≡ 2 ^ (c.width - 1) → int_lt (sg x.width x.value) (sg x.width c.value) ≡ false
+  not_below z = not_below_least x.width x.value c.value (z ∙ ap (λ (k : ℕ). 2 ^ (k - 1)) same)
+
+  not_above : c.value ≡ 2 ^ (c.width - 1) - 1 → int_lt (sg x.width c.value) (sg x.width x.value) ≡ false
+  not_above z = not_above_greatest x.width x.value c.value (z ∙ ap (λ (k : ℕ). 2 ^ (k - 1) - 1) same)
 
   pub second-values : (o : Op2) → fits2_of o x.width c.width ≡ true → IfSome (second_rule o c) (λ r. ruled r x ≡ op2_value o x c)
   second-values op2.Sub h =
@@ -241,6 +309,11 @@ module _ (c x : Bits) (same : c.width ≡ x.width) (is : IsWord c) (word : IsWor
   second-values op2.Ulte h = ends c _ _ (λ r. ruled r x ≡ op2_value op2.Ulte x c) is (λ z. tt) (λ z. let less : x.value < 2 ^ c.width = below in ap truth (sym (le-leb x.value c.value (omega arith))))
   second-values op2.Ugt h = ends c _ _ (λ r. ruled r x ≡ op2_value op2.Ugt x c) is (λ z. tt) (λ z. let less : x.value < 2 ^ c.width = below in ap truth (sym (le-ltb c.value x.value (omega arith))))
   second-values op2.Ugte h = ends c _ _ (λ r. ruled r x ≡ op2_value op2.Ugte x c) is (λ z. ap truth (sym (le-leb c.value x.value (omega arith)))) (λ z. tt)
+  second-values op2.Slt h = by_least c _ (λ r. ruled r x ≡ op2_value op2.Slt x c) (λ z. ap truth (sym (not_below z)))
+  second-values op2.Slte h = by_greatest c _ (λ r. ruled r x ≡ op2_value op2.Slte x c) is (λ z. ap truth (sym (int_le-from (sg x.width x.value) (sg x.width c.value) (not_above z))))
+  second-values op2.Sgt h = by_greatest c _ (λ r. ruled r x ≡ op2_value op2.Sgt x c) is (λ z. ap truth (sym (not_above z)))
+  second-values op2.Sgte h = by_least c _ (λ r. ruled r x ≡ op2_value op2.Sgte x c) (λ z. ap truth (sym (int_le-from (sg x.width c.value) (sg x.width x.value) (not_below z))))
+  second-values op2.Udiv h = by_one c _ _ (λ r. ruled r x ≡ op2_value op2.Udiv x c) (λ z. ap (bits x.width) (sym (ap (λ (n : ℕ). if n == 0 then 2 ^ x.width - 1 else x.value / n) z ∙ div-one x.value))) tt
   second-values _ h = tt
 
 -- operands in the other order

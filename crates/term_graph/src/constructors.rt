@@ -1,14 +1,17 @@
 //! The constructors of terms, which simplify. Each keeps the value of every older term under every
 //! valuation, also where memory runs out, and makes no variable.
-ghost use Rattle.std.specs.Prelude.{◌≡◌, ◌+◌, ◌<◌, ◌≤◌, length, IfOk, IsTrue, IfSome};
+ghost use Rattle.std.specs.Prelude.{◌≡◌, ◌+◌, ◌<◌, ◌≤◌, length, IfOk, IsTrue, IfSome, true, []};
+ghost use Rattle.std.specs.Option.{ForSome};
 ghost use Rattle.knox_words.specs.Ops.{op1_value, op2_or, fits2_of, sext_or, uext_or, slice_or};
 ghost use Rattle.term_graph.specs.Value.{value, width_of, ite_or};
 ghost use Rattle.term_graph.specs.Kept.{Keeps, Gives, IsAlways};
-ghost use Rattle.term_graph.specs.Rules.{ruled, Becomes};
+ghost use Rattle.term_graph.specs.Rules.{ruled, Becomes, Chooses, Narrows, narrow_value};
 
 use crate::graph::Graph;
 use crate::node::{Node, Term};
-use crate::rules::{Rule, first_rule, is_commutative, is_not, same_rule, second_rule};
+use crate::rules::{
+    Rule, apart, first_rule, is_commutative, is_equality, same_rule, second_rule, shortened, undoes,
+};
 use knox_words::{Op1, Op2, Word};
 use std::alloc::AllocError;
 
@@ -38,13 +41,13 @@ impl Graph {
         }
     }
 
-    /// The term whose complement a term is, for the operator that turns every bit.
+    /// The term that an operator gives back, where it undoes that of a term.
     fn undone(&self, o: Op1, a: Term) -> Option<Term>
         requires { a < length self.now }
         ensures { IfSome result (λ t. Gives self.now t (λ v. op1_value o (value v self.now a))) }
     {
         match self.node(a) {
-            Node::Un(inner, x) if is_not(o) && is_not(inner) => Some(x),
+            Node::Un(inner, x) if undoes(o, inner) => Some(x),
             _ => None,
         }
     }
@@ -146,6 +149,57 @@ impl Graph {
         self.place_of(Node::Bin(o, a, b), width)
     }
 
+    /// Where an operator asks for the equality of a word and an extension: the word of which the
+    /// first is the extension, if there is one, and the term that is extended.
+    fn narrowed(&self, o: Op2, a: Term, b: Term) -> Option<(Option<Word>, Term)>
+        requires first { a < length self.now }
+        requires second { b < length self.now }
+        ensures { IfSome result (λ r. Narrows self.now o a b r.0 r.1) }
+    {
+        let c = self.constant(a)?;
+        if !is_equality(o) || c.width() != self.width(b) {
+            return None;
+        }
+        match self.node(b) {
+            Node::Uext(x, n) if n < c.width() => Some((shortened(c, n, false), x)),
+            Node::Sext(x, n) if n < c.width() => Some((shortened(c, n, true), x)),
+            _ => None,
+        }
+    }
+
+    /// An operator that asks for equality, on a word, if there is one, and a term.
+    #[tactic(auto, using(crate::proofs::FoldLemmas::keeping))]
+    fn compared(&mut self, o: Op2, d: Option<Word>, x: Term) -> Result<Term, AllocError>
+        requires within { x < length self.old }
+        requires fits { ForSome d (λ y. fits2_of o y.width (width_of self.old x) ≡ true) }
+        ensures kept { Keeps self.old self.new }
+        ensures value { IfOk result (λ t. Gives self.new t (λ v. narrow_value o d (value v self.old x))) }
+    {
+        match d {
+            Some(y) => {
+                let y = self.word(y)?;
+                let t = self.joined(o, y, x)?;
+                Ok(t)
+            }
+            None => self.word(apart(o)),
+        }
+    }
+
+    /// An operator on two terms in this order, where a word is not compared with an extension.
+    #[tactic(auto, using(crate::proofs::ExtendLemmas::narrowing))]
+    fn ordered(&mut self, o: Op2, a: Term, b: Term) -> Result<Term, AllocError>
+        requires first { a < length self.old }
+        requires second { b < length self.old }
+        requires fits { IsTrue (fits2_of o (width_of self.old a) (width_of self.old b)) }
+        ensures kept { Keeps self.old self.new }
+        ensures value { IfOk result (λ t. Gives self.new t (λ v. op2_or o (value v self.old a) (value v self.old b))) }
+    {
+        if let Some((d, x)) = self.narrowed(o, a, b) {
+            return self.compared(o, d, x);
+        }
+        self.joined(o, a, b)
+    }
+
     /// Whether two operands of a commutative operator are to be turned: a word goes first, and else
     /// the older term.
     fn are_turned(&self, a: Term, b: Term) -> bool
@@ -169,10 +223,10 @@ impl Graph {
         ensures value { IfOk result (λ t. Gives self.new t (λ v. op2_or o (value v self.old a) (value v self.old b))) }
     {
         if is_commutative(o) && self.are_turned(a, b) {
-            let t = self.joined(o, b, a)?;
+            let t = self.ordered(o, b, a)?;
             return Ok(t);
         }
-        self.joined(o, a, b)
+        self.ordered(o, a, b)
     }
 
     /// A term's number, read with a sign, in `n` bits more. `Err` is want of memory.
@@ -183,6 +237,9 @@ impl Graph {
         ensures kept { Keeps self.old self.new }
         ensures value { IfOk result (λ t. Gives self.new t (λ v. sext_or (value v self.old a) n)) }
     {
+        if n == 0 {
+            return Ok(a);
+        }
         if let Some(x) = self.constant(a) {
             return self.word(knox_words::sext_or(x, n));
         }
@@ -198,6 +255,9 @@ impl Graph {
         ensures kept { Keeps self.old self.new }
         ensures value { IfOk result (λ t. Gives self.new t (λ v. uext_or (value v self.old a) n)) }
     {
+        if n == 0 {
+            return Ok(a);
+        }
         if let Some(x) = self.constant(a) {
             return self.word(knox_words::uext_or(x, n));
         }
@@ -215,16 +275,60 @@ impl Graph {
         ensures kept { Keeps self.old self.new }
         ensures value { IfOk result (λ t. Gives self.new t (λ v. slice_or (value v self.old a) high low)) }
     {
+        let whole = self.width(a);
+        if low == 0 && high + 1 == whole {
+            return Ok(a);
+        }
         if let Some(x) = self.constant(a) {
             return self.word(knox_words::slice_or(x, high, low));
         }
-        let _whole = self.width(a);
         self.place_of(Node::Slice(a, high, low), high - low + 1)
     }
 
-    /// `a` where `c`, of width 1, is 1, and else `b`, of the same width. `Err` is want of memory.
-    #[tactic(auto, using(crate::proofs::FoldLemmas::folding, crate::proofs::FoldLemmas::choosing))]
-    pub fn ite(&mut self, c: Term, a: Term, b: Term) -> Result<Term, AllocError>
+    /// The operator for a choice between two terms of width 1 of which one is a word, with what the
+    /// condition becomes and the other term.
+    fn bit_choice(&self, c: Term, a: Term, b: Term) -> Option<(Op2, Rule, Term)>
+        requires condition { c < length self.now }
+        requires first { a < length self.now }
+        requires second { b < length self.now }
+        requires bit { width_of self.now c ≡ 1 }
+        requires same { width_of self.now a ≡ width_of self.now b }
+        ensures { IfSome result (λ r. Chooses self.now c a b r.0 r.1 r.2) }
+    {
+        if self.width(a) != 1 {
+            return None;
+        }
+        if let Some(y) = self.constant(b) {
+            if y.value() == 0 {
+                return Some((Op2::And, Rule::Itself, a));
+            }
+            return Some((Op2::Or, Rule::Turned, a));
+        }
+        if let Some(x) = self.constant(a) {
+            if x.value() == 0 {
+                return Some((Op2::And, Rule::Turned, b));
+            }
+            return Some((Op2::Or, Rule::Itself, b));
+        }
+        None
+    }
+
+    /// An operator on what a rule makes of a term, and another term.
+    fn ruled_bin(&mut self, o: Op2, c: Term, rule: Rule, x: Term) -> Result<Term, AllocError>
+        requires condition { c < length self.old }
+        requires other { x < length self.old }
+        requires fits { fits2_of o (ruled rule (value [] self.old c)).width (width_of self.old x) ≡ true }
+        ensures kept { Keeps self.old self.new }
+        ensures value { IfOk result (λ t. Gives self.new t (λ v. op2_or o (ruled rule (value v self.old c)) (value v self.old x))) }
+    {
+        let d = self.apply(c, rule)?;
+        let t = self.bin(o, d, x)?;
+        Ok(t)
+    }
+
+    /// `a` where `c` is 1, and else `b`, where the condition is not turned.
+    #[tactic(auto, using(crate::proofs::FoldLemmas::folding, crate::proofs::FoldLemmas::choosing, crate::proofs::ChoiceLemmas::choosing_bits))]
+    fn choice(&mut self, c: Term, a: Term, b: Term) -> Result<Term, AllocError>
         requires condition { c < length self.old }
         requires first { a < length self.old }
         requires second { b < length self.old }
@@ -242,7 +346,29 @@ impl Graph {
             }
             return Ok(b);
         }
+        if let Some((o, rule, x)) = self.bit_choice(c, a, b) {
+            let t = self.ruled_bin(o, c, rule, x)?;
+            return Ok(t);
+        }
         let width = self.width(a);
         self.place_of(Node::Ite(c, a, b), width)
+    }
+
+    /// `a` where `c`, of width 1, is 1, and else `b`, of the same width. `Err` is want of memory.
+    #[tactic(auto, using(crate::proofs::FoldLemmas::turning_choice))]
+    pub fn ite(&mut self, c: Term, a: Term, b: Term) -> Result<Term, AllocError>
+        requires condition { c < length self.old }
+        requires first { a < length self.old }
+        requires second { b < length self.old }
+        requires bit { width_of self.old c ≡ 1 }
+        requires same { width_of self.old a ≡ width_of self.old b }
+        ensures kept { Keeps self.old self.new }
+        ensures value { IfOk result (λ t. Gives self.new t (λ v. ite_or (value v self.old c) (value v self.old a) (value v self.old b))) }
+    {
+        if let Some(d) = self.undone(Op1::Not, c) {
+            let t = self.choice(d, b, a)?;
+            return Ok(t);
+        }
+        self.choice(c, a, b)
     }
 }
