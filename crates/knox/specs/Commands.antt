@@ -27,8 +27,11 @@ ending x [] = Some x
 ending x (w ∷ ws) = None
 
 -- C S D E H, and then the budget and the paths
+abbrev pub verify_with : List Bytes → Option Command
+verify_with ws = option_and_then (λ b. option_and_then (λ p. ending (Verify b.0 p.0) p.1) (paths_after b.1)) (budget_after ws)
+
 abbrev pub verify_of : List Bytes → Option Command
-verify_of (c ∷ s ∷ d ∷ e ∷ h ∷ ws) = option_and_then (λ b. option_and_then (λ p. ending (Verify b.0 p.0) p.1) (paths_after b.1)) (budget_after ws)
+verify_of (c ∷ s ∷ d ∷ e ∷ h ∷ ws) = verify_with ws
 verify_of _ = None
 
 -- F, and then the budget

@@ -1,8 +1,8 @@
 //! The commands of the command line. Their words have one fixed order.
-ghost use Rattle.std.specs.Prelude.{◌≡◌, ◌≤◌, ◌-◌, IfSome, length};
+ghost use Rattle.std.specs.Prelude.{◌≡◌, ◌≤◌, ◌+◌, ◌-◌, IfSome, length};
 ghost use Rattle.std.specs.Option.{option_map};
 ghost use Rattle.knox.specs.Words.{bytes_of};
-ghost use Rattle.knox.specs.Commands.{HasTexts, limited, limit_after, budget_after, verify_of, budgeted, slots_of, command_of};
+ghost use Rattle.knox.specs.Commands.{HasTexts, limited, limit_after, budget_after, verify_with, verify_of, budgeted, slots_of, command_of};
 
 use knox_text::natural;
 
@@ -68,18 +68,24 @@ fn budget_after(words: &[Vec<u8>]) -> Option<(u64, &[Vec<u8>])>
     limit_after(b"budget", 1_000_000, 4_294_967_296, words)
 }
 
+/// The budget and the paths of a verify command, by the words after its texts.
+fn verify_with(words: &[Vec<u8>]) -> Option<Command>
+    ensures value { result ≡ verify_with (bytes_of words.now) }
+    ensures texts { IfSome result (λ command. HasTexts command (length words.now + 5)) }
+{
+    let (budget, rest) = budget_after(words)?;
+    let (paths, rest) = limit_after(b"paths", 4096, 65_536, rest)?;
+    let paths = paths as u32;
+    rest.is_empty().then_some(Command::Verify { budget, paths })
+}
+
 /// C S D E H, and then the budget and the paths.
 fn verify_command(words: &[Vec<u8>]) -> Option<Command>
     ensures value { result ≡ verify_of (bytes_of words.now) }
     ensures texts { IfSome result (λ command. HasTexts command (length words.now)) }
 {
     match words {
-        [_, _, _, _, _, limits @ ..] => {
-            let (budget, rest) = budget_after(limits)?;
-            let (paths, rest) = limit_after(b"paths", 4096, 65_536, rest)?;
-            let paths = paths as u32;
-            rest.is_empty().then_some(Command::Verify { budget, paths })
-        }
+        [_, _, _, _, _, limits @ ..] => verify_with(limits),
         _ => None,
     }
 }

@@ -43,7 +43,8 @@ fn rule_name(why: Why) -> &'static str
     ensures { result.now ≡ the.rule_name why }
 {
     name_of!(why: Why {
-        TooManyLines Number Order Constraint Unsupported Keyword Operand Sort Digits Width Init Next TooManyWords Memory
+        TooManyLines Number Order Constraint Unsupported Keyword Operand
+        Sort Digits Width Init Next TooManyWords Memory
     })
 }
 

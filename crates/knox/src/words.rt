@@ -1,5 +1,5 @@
 //! The words of the command line.
-use std::alloc::{AllocError, Global};
+use std::alloc::Global;
 use std::env::FillError;
 use std::rt::Env;
 
@@ -18,18 +18,12 @@ pub enum NoWords {
     Refused,
 }
 
-impl From<AllocError> for NoWords {
-    fn from(_error: AllocError) -> NoWords {
-        NoWords::Memory
-    }
-}
-
 /// The words that the program was started with, as bytes.
 pub fn program_words<R: Env>(rt: &R, alloc: Global) -> Result<Words, NoWords> {
     let mut items = Vec::new(alloc);
     for place in 1..usize::MAX {
         match program_word(rt, alloc, place)? {
-            Some(word) => items.push(word)?,
+            Some(word) => items.push(word).map_err(|_| NoWords::Memory)?,
             None => break,
         }
     }
@@ -41,7 +35,7 @@ fn program_word<R: Env>(rt: &R, alloc: Global, place: usize) -> Result<Option<Ve
     let mut capacity = 256usize;
     for _ in 0..usize::BITS {
         let mut bytes = Vec::new(alloc);
-        bytes.resize(capacity, 0u8)?;
+        bytes.resize(capacity, 0u8).map_err(|_| NoWords::Memory)?;
         match rt.arg(place, bytes.as_mut_slice()) {
             Ok(count) => {
                 bytes.truncate(count);
