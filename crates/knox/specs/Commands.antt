@@ -1,5 +1,5 @@
 -- What the words after a program's name mean: commands, their limits, and the names of their texts.
-use Rattle.std.specs.Prelude.{ℕ, ◌≡◌, ◌≤◌, List, [], ◌∷◌, Option, Some, None, codes, if◌then◌else◌, nat_le, ◌==◌, length, ◌&&◌}
+use Rattle.std.specs.Prelude.{ℕ, ◌≡◌, ◌≤◌, List, [], ◌∷◌, Option, Some, None, codes, if◌then◌else◌, nat_le, ◌==◌, length, drop, ◌&&◌}
 use Rattle.std.specs.Option.{option_map, option_and_then}
 use Rattle.std.specs.Str.{bytes_eq}
 use Rattle.knox_text.specs.Numbers.{natural}
@@ -31,8 +31,7 @@ abbrev pub verify_with : List Bytes → Option Command
 verify_with ws = option_and_then (λ b. option_and_then (λ p. ending (Verify b.0 p.0) p.1) (paths_after b.1)) (budget_after ws)
 
 abbrev pub verify_of : List Bytes → Option Command
-verify_of (c ∷ s ∷ d ∷ e ∷ h ∷ ws) = verify_with ws
-verify_of _ = None
+verify_of ws = if nat_le 5 (length ws) then verify_with (drop 5 ws) else None
 
 -- F, and then the budget
 abbrev pub budgeted : List Bytes → Option ℕ

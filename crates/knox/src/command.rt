@@ -84,10 +84,10 @@ fn verify_command(words: &[Vec<u8>]) -> Option<Command>
     ensures value { result ≡ verify_of (bytes_of words.now) }
     ensures texts { IfSome result (λ command. HasTexts command (length words.now)) }
 {
-    match words {
-        [_, _, _, _, _, limits @ ..] => verify_with(limits),
-        _ => None,
+    if words.len() < 5 {
+        return None;
     }
+    verify_with(&words[5..])
 }
 
 /// F, and then the budget.
