@@ -13,7 +13,7 @@ text_at (e ∷ es) (suc n) t at = text_at es n t at
 
 -- the text at a place, and those behind it
 pub text-next : (es : List Named) (n m : ℕ) (t : Bytes) (ts : List Bytes) → m ≡ n + 1 → option_map (λ e. e.1) (slice_get es n) ≡ Some t → texts_of (drop m es) ≡ ts → texts_of (drop n es) ≡ t ∷ ts
-text-next es n m t ts next at behind = text_at es n t at ∙ ap (λ k. t ∷ texts_of (drop k es)) (sym (next ∙ add-one)) ∙ ap (λ z. t ∷ z) behind
+text-next es n m t ts next at behind = text_at es n t at ∙ ap (λ k. t ∷ texts_of (drop k es)) (sym (next ∙ add-one n)) ∙ ap (λ z. t ∷ z) behind
 
 pub no-texts : (es : List Named) (n : ℕ) → length es ≤ n → texts_of (drop n es) ≡ []
 no-texts es n past = ap texts_of (drop_all n es past)

@@ -1,5 +1,5 @@
 -- What a shelf has kept after a command's texts were read one after another.
-use Rattle.std.specs.Prelude.{◌≡◌, ℕ, ◌<◌, ◌≤◌, List, ◌++◌, length, map, take, slice_index_or, Err, ◌==◌, if◌then◌else◌}
+use Rattle.std.specs.Prelude.{◌≡◌, ℕ, ◌<◌, ◌≤◌, List, [], ◌++◌, length, map, take, slice_index_or, Err, ◌==◌, if◌then◌else◌}
 use Rattle.std.specs.List.{All}
 use Rattle.knox_edge.specs.declared.shelf.ShelfEnd.TheVariants as end
 use Rattle.knox.specs.Words.{Bytes, Named, Reads, limit, ShelfEnd, Asks, CountsFault, TookTooMuch, Letter, C, S, D, E, H, F, P}
