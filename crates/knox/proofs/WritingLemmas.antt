@@ -1,20 +1,10 @@
 -- Texts that are put line by line, and on two sinks.
-use Rattle.std.proofs.Common.{◌≡◌, ◌∙◌, ℕ, [], ◌++◌, take, drop, ap, sym, refl, subst, inl, inr, append_assoc, append-nil, Option, Some, None, Result, Ok, Err}
+use Rattle.std.proofs.Common.{◌≡◌, ◌∙◌, ℕ, ◌++◌, rules, take, drop, ap, sym, refl, subst, inr, append_assoc, append-nil, Option, Some, None, Result, Ok, Err}
 use Rattle.std.proofs.lemmas.List.{take-append-drop}
 use Rattle.knox_edge.proofs.Known.{Appends-append}
 use Rattle.knox.specs.declared.status.Status.TheVariants.{WriteFault, Memory}
 use Rattle.knox.specs.Words.{Bytes, Sunk, Appends, Rose, Status}
-use Rattle.knox.specs.Writing.{Cut, Whole, Puts, StopsBoth, Delivers}
-
-Appends-none : (o : Option Bytes) → Appends o o []
-Appends-none None = tt
-Appends-none (Some xs) = sym (append-nil xs)
-
-Cut-none : (o : Sunk) (text : Bytes) → Cut o o text
-Cut-none o text = ([], text, refl, Appends-none o.written)
-
-Cut-whole : (old new : Sunk) (text : Bytes) → Whole old new text → Cut old new text
-Cut-whole old new text w = (text, [], sym (append-nil text), w.0)
+use Rattle.knox.specs.Writing.{Cut, Whole, Puts, Delivers}
 
 -- a prefix of a line is one of the text
 pub Cut-taken : (old new : Sunk) (text line rest : Bytes) (n : ℕ) → text ≡ line ++ rest → Appends old.written new.written (take n line) → Cut old new text
@@ -33,24 +23,6 @@ puts-next (Err WriteFault) old mid new text line rest is w p = (cut-next old mid
 puts-next (Err Memory) old mid new text line rest is w p = cut-next old mid new text line rest is w p
 puts-next (Err _) old mid new text line rest is w p = absurd p
 
--- ---- two sinks
-
-out-stops : (status : Status) (o o' e : Sunk) (text other : Bytes) → Puts text (Err status) o o' → StopsBoth text other status o o' e e
-out-stops WriteFault o o' e text other s = (s.0, Cut-none e other, inl s.1)
-out-stops Memory o o' e text other s = (s, Cut-none e other)
-out-stops _ o o' e text other s = absurd s
-
-err-stops : (status : Status) (o o' e e' : Sunk) (text other : Bytes) → Whole o o' text → Puts other (Err status) e e' → StopsBoth text other status o o' e e'
-err-stops WriteFault o o' e e' text other w s = (Cut-whole o o' text w, s.0, inr s.1)
-err-stops Memory o o' e e' text other w s = (Cut-whole o o' text w, s)
-err-stops _ o o' e e' text other w s = absurd s
-
-pub delivers-cut : (wanted status : Status) (o o' e : Sunk) (text other : Bytes) → Puts text (Err status) o o' → Delivers text other wanted status o o' e e
-delivers-cut wanted status o o' e text other s = inr (out-stops status o o' e text other s)
-
-pub delivers-half : (wanted status : Status) (o o' e e' : Sunk) (text other : Bytes) → Whole o o' text → Puts other (Err status) e e' → Delivers text other wanted status o o' e e'
-delivers-half wanted status o o' e e' text other w s = inr (err-stops status o o' e e' text other w s)
-
 -- no text is written where memory was wanting before
 pub delivers-none : (wanted : Status) (o e : Sunk) (text other : Bytes) → Delivers text other wanted Memory o o e e
-delivers-none wanted o e text other = inr (Cut-none o text, Cut-none e other)
+delivers-none wanted o e text other = search rules
