@@ -1,5 +1,5 @@
 -- Texts that are put line by line, and on two sinks.
-use Rattle.std.proofs.Common.{◌≡◌, ◌∙◌, ℕ, ◌++◌, rules, take, drop, ap, sym, refl, subst, inr, append_assoc, append-nil, Option, Some, None, Result, Ok, Err}
+use Rattle.std.proofs.Common.{◌≡◌, ◌∙◌, ℕ, ◌++◌, rules, take, drop, ap, sym, subst, append_assoc, Result, Ok, Err}
 use Rattle.std.proofs.lemmas.List.{take-append-drop}
 use Rattle.knox_edge.proofs.Known.{Appends-append}
 use Rattle.knox.specs.declared.status.Status.TheVariants.{WriteFault, Memory}

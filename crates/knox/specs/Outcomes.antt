@@ -1,7 +1,7 @@
 -- What a run has to say, and the status that then comes.
 use Rattle.std.specs.Prelude.{ℕ, List, [], slice_index_or}
 use Rattle.knox.specs.declared.status.Status.TheVariants as status
-use Rattle.knox.specs.Words.{Bytes, Status, Verdict, Yes, Undecided, TooWide, CheckEnd, Verified, Rejected, NoEmptyClause}
+use Rattle.knox.specs.Words.{Bytes, Status, Yes, Undecided, TooWide, Verified, Rejected, NoEmptyClause}
 use Rattle.knox.specs.Words.{Outcome, NoCommand, Unbuilt, Unread, Text, Judged, Checked, Memory}
 use Rattle.knox.specs.Lines.{usage_line, not_yet_line, cannot_read_line, text_line, check_line, verdict_lines}
 
