@@ -1,4 +1,3 @@
-pub mod Digits
 pub mod ReadSteps
 pub mod TextsLemmas
 pub mod WritingLemmas

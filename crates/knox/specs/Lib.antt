@@ -1,3 +1,4 @@
+pub mod Words
 pub mod Commands
 pub mod Lines
 pub mod Outcomes

@@ -2,27 +2,13 @@
 use Rattle.std.specs.Prelude.{ℕ, List, ◌++◌, codes}
 use Rattle.std.specs.List.{flat_map}
 use Rattle.std.specs.Fmt.{decimal}
-use Rattle.knox_text.specs.declared.place.Place.{Place}
-use Rattle.knox_words.specs.Bits.{Bits}
-use Rattle.knox_edge.specs.Texts.{Bytes}
-use Rattle.knox_circuit.specs.Why.{Why}
 use Rattle.knox_circuit.specs.Why.TheVariants as circuit
-use Rattle.expr_read.specs.declared.faults.LangWhy.{LangWhy}
 use Rattle.expr_read.specs.declared.faults.LangWhy.TheVariants as lang
-use Rattle.script_read.specs.declared.fault.ScriptWhy.{ScriptWhy}
 use Rattle.script_read.specs.declared.fault.ScriptWhy.TheVariants as script
-use Rattle.lrat_check.specs.declared.step.Step.{Step}
 use Rattle.lrat_check.specs.declared.step.Step.TheVariants as step
 use Rattle.proof_text.specs.declared.fault.ProofFault.TheVariants as proof
-use Rattle.knox_verify.specs.declared.verdict.Letter.{Letter}
-use Rattle.knox_verify.specs.declared.verdict.Letter.TheVariants.{C, S, D, E, H, T, F, P}
-use Rattle.knox_verify.specs.declared.verdict.TextWhy.TheVariants.{TooLong, Circuit, Lang, Script}
-use Rattle.knox_verify.specs.declared.verdict.Verdict.{Verdict}
-use Rattle.knox_verify.specs.declared.verdict.Verdict.TheVariants.{Yes, Undecided, TooWide}
-use Rattle.knox.specs.declared.outcome.TextFault.{TextFault}
-use Rattle.knox.specs.declared.outcome.TextFault.TheVariants.{OfDevice, OfProof}
-use Rattle.knox.specs.declared.checking.CheckEnd.{CheckEnd}
-use Rattle.knox.specs.declared.checking.CheckEnd.TheVariants.{Verified, Rejected, NoEmptyClause}
+use Rattle.knox.specs.Words.{Bytes, Bits, Place, Why, LangWhy, ScriptWhy, Step, Letter, C, S, D, E, H, T, F, P, TooLong, Circuit, Lang, Script}
+use Rattle.knox.specs.Words.{Verdict, Yes, Undecided, TooWide, TextFault, OfDevice, OfProof, CheckEnd, Verified, Rejected, NoEmptyClause}
 
 abbrev pub usage_line : Bytes
 usage_line = codes "usage: knox verify C S D E H [budget N] [paths N] | replay C S D E T | prove F [budget N] | sat F [budget N] | check F P | selftest N\n"
@@ -83,27 +69,21 @@ script_name script.Bound = codes "Bound"
 script_name script.Missing = codes "Missing"
 script_name script.Memory = codes "Memory"
 
--- a text's fault without a place, on a line of a circuit, and at a place
-abbrev pub whole_text_line : Letter → Bytes → Bytes
-whole_text_line letter word = codes "text " ++ (letter_name letter ++ (codes " " ++ (word ++ codes "\n")))
-
-abbrev pub at_line : Letter → ℕ → Bytes → Bytes
-at_line letter line word = codes "text " ++ (letter_name letter ++ (codes " line " ++ (decimal line ++ (codes " " ++ (word ++ codes "\n")))))
-
+-- a text's fault at a place
 abbrev pub at_place : Letter → Place → Bytes → Bytes
-at_place letter at word =
-    codes "text " ++ (letter_name letter ++ (codes " " ++ (decimal at.line ++ (codes ":" ++ (decimal at.column ++ (codes " " ++ (word ++ codes "\n")))))))
+at_place letter at word = codes "text " ++ (letter_name letter ++ (codes " " ++ (decimal at.line ++ (codes ":" ++ (decimal at.column ++ (codes " " ++ (word ++ codes "\n")))))))
 
+-- the fault of a text: of a whole one, on a line of a circuit, or at a place
 abbrev pub text_line : Letter → TextFault → Bytes
-text_line letter (OfDevice TooLong) = whole_text_line letter (codes "TooLong")
-text_line letter (OfDevice (Circuit f)) = at_line letter f.line (rule_name f.why)
+text_line letter (OfDevice TooLong) = codes "text " ++ (letter_name letter ++ codes " TooLong\n")
+text_line letter (OfDevice (Circuit f)) = codes "text " ++ (letter_name letter ++ (codes " line " ++ (decimal f.line ++ (codes " " ++ (rule_name f.why ++ codes "\n")))))
 text_line letter (OfDevice (Lang f)) = at_place letter f.place (lang_name f.why)
 text_line letter (OfDevice (Script f)) = at_place letter f.place (script_name f.why)
 text_line letter (OfProof (proof.Header at)) = at_place letter at (codes "Header")
 text_line letter (OfProof (proof.Count at)) = at_place letter at (codes "Count")
 text_line letter (OfProof (proof.Variable at)) = at_place letter at (codes "Variable")
 text_line letter (OfProof (proof.Shape at)) = at_place letter at (codes "Shape")
-text_line letter (OfProof proof.Memory) = whole_text_line letter (codes "Memory")
+text_line letter (OfProof proof.Memory) = codes "text " ++ (letter_name letter ++ codes " Memory\n")
 
 -- ---- a check
 

@@ -1,14 +1,8 @@
 -- What a run has to say, and the status that then comes.
 use Rattle.std.specs.Prelude.{ℕ, List, [], slice_index_or}
-use Rattle.knox_edge.specs.Texts.{Bytes}
-use Rattle.knox.specs.declared.status.Status.{Status}
 use Rattle.knox.specs.declared.status.Status.TheVariants as status
-use Rattle.knox_verify.specs.declared.verdict.Verdict.{Verdict}
-use Rattle.knox_verify.specs.declared.verdict.Verdict.TheVariants.{Yes, Undecided, TooWide}
-use Rattle.knox.specs.declared.outcome.Outcome.{Outcome}
-use Rattle.knox.specs.declared.outcome.Outcome.TheVariants.{NoCommand, Unbuilt, Unread, Text, Judged, Checked, Memory}
-use Rattle.knox.specs.declared.checking.CheckEnd.{CheckEnd}
-use Rattle.knox.specs.declared.checking.CheckEnd.TheVariants.{Verified, Rejected, NoEmptyClause}
+use Rattle.knox.specs.Words.{Bytes, Status, Yes, Undecided, TooWide, Verified, Rejected, NoEmptyClause}
+use Rattle.knox.specs.Words.{Outcome, NoCommand, Unbuilt, Unread, Text, Judged, Checked, Memory}
 use Rattle.knox.specs.Lines.{usage_line, not_yet_line, cannot_read_line, text_line, check_line, verdict_lines}
 
 -- the number that the program ends with
@@ -25,26 +19,18 @@ number_of status.Memory = 9
 number_of status.TooWide = 10
 number_of status.NotYet = 11
 
--- the status of a verdict
-abbrev pub status_of_verdict : Verdict → Status
-status_of_verdict Yes = status.Yes
-status_of_verdict (Undecided hint choices) = status.Undecided
-status_of_verdict (TooWide hint bits) = status.TooWide
-
--- the status of a check
-abbrev pub status_of_check : CheckEnd → Status
-status_of_check Verified = status.Done
-status_of_check (Rejected number why) = status.No
-status_of_check NoEmptyClause = status.No
-
 -- the status of an outcome
 abbrev pub status_of : Outcome → Status
 status_of NoCommand = status.Usage
 status_of Unbuilt = status.NotYet
 status_of (Unread which) = status.ReadFault
 status_of (Text letter why) = status.Text
-status_of (Judged verdict) = status_of_verdict verdict
-status_of (Checked end) = status_of_check end
+status_of (Judged Yes) = status.Yes
+status_of (Judged (Undecided hint choices)) = status.Undecided
+status_of (Judged (TooWide hint bits)) = status.TooWide
+status_of (Checked Verified) = status.Done
+status_of (Checked (Rejected number why)) = status.No
+status_of (Checked NoEmptyClause) = status.No
 status_of Memory = status.Memory
 
 -- what is written to `out`: a verdict, or how a check ended

@@ -1,22 +1,13 @@
 -- What a shelf has kept after a command's texts were read one after another.
-use Rattle.std.specs.Prelude.{◌≡◌, ℕ, ◌<◌, ◌≤◌, List, [], ◌∷◌, ◌++◌, length, map, take, slice_index_or, Err, ◌==◌, if◌then◌else◌}
-use Rattle.knox_edge.specs.declared.shelf.ShelfEnd.{ShelfEnd}
+use Rattle.std.specs.Prelude.{◌≡◌, ℕ, ◌<◌, ◌≤◌, List, [], ◌++◌, length, map, take, slice_index_or, Err, ◌==◌, if◌then◌else◌}
+use Rattle.std.specs.List.{All}
 use Rattle.knox_edge.specs.declared.shelf.ShelfEnd.TheVariants as end
-use Rattle.knox_edge.specs.Texts.{Bytes, Named, Reads, limit}
-use Rattle.knox_edge.specs.Shelf.{Asks, CountsFault, TookTooMuch}
-use Rattle.knox_verify.specs.declared.verdict.Letter.{Letter}
-use Rattle.knox_verify.specs.declared.verdict.Letter.TheVariants.{C, S, D, E, H, F, P}
-use Rattle.knox_verify.specs.declared.verdict.TextWhy.TheVariants.{TooLong}
-use Rattle.knox.specs.declared.command.Command.{Command}
-use Rattle.knox.specs.declared.command.Command.TheVariants.{Check}
-use Rattle.knox.specs.declared.outcome.Outcome.{Outcome}
-use Rattle.knox.specs.declared.outcome.Outcome.TheVariants.{Unread, Text, Memory}
-use Rattle.knox.specs.declared.outcome.TextFault.TheVariants.{OfDevice}
+use Rattle.knox.specs.Words.{Bytes, Named, Reads, limit, ShelfEnd, Asks, CountsFault, TookTooMuch, Letter, C, S, D, E, H, F, P}
+use Rattle.knox.specs.Words.{TooLong, Command, Check, Outcome, Unread, Text, Memory, OfDevice}
 
 -- no text is over the limit
 abbrev pub Within : List Bytes → Type 0
-Within [] = Unit {0}
-Within (t ∷ ts) = (length t ≤ limit) × Within ts
+Within ts = All (λ t. length t ≤ limit) ts
 
 -- the bytes of some texts
 abbrev pub texts_of : List Named → List Bytes

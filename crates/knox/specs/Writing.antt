@@ -1,11 +1,7 @@
 -- How an answer reaches the sinks.
-use Rattle.std.specs.Prelude.{◌≡◌, ◌++◌, ◌⊎◌}
-use Rattle.std.specs.Io.KnownBytes.{Appends}
-use Rattle.knox_edge.specs.Counts.{Rose}
-use Rattle.knox_edge.specs.Texts.{Bytes}
-use Rattle.knox_edge.specs.Sink.{Sunk}
-use Rattle.knox.specs.declared.status.Status.{Status}
+use Rattle.std.specs.Prelude.{◌≡◌, ◌++◌, ◌⊎◌, Result, Ok, Err}
 use Rattle.knox.specs.declared.status.Status.TheVariants.{WriteFault, Memory}
+use Rattle.knox.specs.Words.{Bytes, Sunk, Appends, Rose, Status}
 
 -- where it is told, a text was appended, and no fault was counted
 abbrev pub Whole : Sunk → Sunk → Bytes → Type 0
@@ -15,13 +11,14 @@ Whole old new text = Appends old.written new.written text × (new.faults ≡ old
 abbrev pub Cut : Sunk → Sunk → Bytes → Type 0
 Cut old new text = (kept : Bytes) × (rest : Bytes) × (text ≡ kept ++ rest) × Appends old.written new.written kept
 
--- the status of a text that was not written to its end: a put failed, which the sink counted, or memory was wanting
-abbrev pub Stops : Bytes → Status → Sunk → Sunk → Type 0
-Stops text WriteFault old new = Cut old new text × Rose old.faults new.faults
-Stops text Memory old new = Cut old new text
-Stops text _ old new = ⊥
+-- a text was written, or not to its end, which has a status of its own: a put failed, which the sink counted, or memory was wanting
+abbrev pub Puts : Bytes → Result (Unit {0}) Status → Sunk → Sunk → Type 0
+Puts text (Ok _) old new = Whole old new text
+Puts text (Err WriteFault) old new = Cut old new text × Rose old.faults new.faults
+Puts text (Err Memory) old new = Cut old new text
+Puts text (Err _) old new = ⊥
 
--- the same of the texts for `out` and `err`
+-- the status of the texts for `out` and `err`, where one of them was not written to its end
 abbrev pub StopsBoth : Bytes → Bytes → Status → Sunk → Sunk → Sunk → Sunk → Type 0
 StopsBoth out_text err_text WriteFault out out' err err' =
     Cut out out' out_text × Cut err err' err_text × (Rose out.faults out'.faults ⊎ Rose err.faults err'.faults)

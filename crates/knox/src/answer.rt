@@ -1,8 +1,8 @@
 //! A run's answer as one value, and how it reaches the sinks.
-ghost use Rattle.std.specs.Prelude.{◌≡◌, ◌<◌, ◌≤◌, length, IfOk, MatchResult, [], slice_index_or};
-ghost use Rattle.knox_edge.specs.Texts.{bytes_of};
-ghost use Rattle.knox.specs.Outcomes.{status_of, status_of_verdict, status_of_check, to_out, to_err};
-ghost use Rattle.knox.specs.Writing.{Whole, Stops, Delivers};
+ghost use Rattle.std.specs.Prelude.{◌≡◌, ◌<◌, ◌≤◌, length, IfOk, [], slice_index_or};
+ghost use Rattle.knox.specs.Words.{bytes_of};
+ghost use Rattle.knox.specs.Outcomes.{status_of, to_out, to_err};
+ghost use Rattle.knox.specs.Writing.{Puts, Delivers};
 
 use crate::checking::CheckEnd;
 use crate::lines::{cannot_read, check_line, text_line, verdict_lines};
@@ -27,45 +27,32 @@ pub struct Answer {
     err: Vec<u8>,
 }
 
-/// An answer that is for `out` alone.
-fn on_out(alloc: Global, status: Status, text: &[u8]) -> Result<Answer, AllocError>
-    ensures status { IfOk result (λ a. a.status ≡ status) }
-    ensures out { IfOk result (λ a. a.out.items ≡ text.now) }
-    ensures err { IfOk result (λ a. a.err.items ≡ []) }
+/// The status of an outcome.
+fn status_of(outcome: &Outcome) -> Status
+    ensures { result ≡ status_of outcome.now }
 {
-    let out = Vec::from_slice(alloc, text)?;
-    let err = Vec::new(alloc);
-    Ok(Answer { status, out, err })
-}
-
-/// An answer that is for `err` alone.
-fn on_err(alloc: Global, status: Status, text: &[u8]) -> Result<Answer, AllocError>
-    ensures status { IfOk result (λ a. a.status ≡ status) }
-    ensures out { IfOk result (λ a. a.out.items ≡ []) }
-    ensures err { IfOk result (λ a. a.err.items ≡ text.now) }
-{
-    let out = Vec::new(alloc);
-    let err = Vec::from_slice(alloc, text)?;
-    Ok(Answer { status, out, err })
-}
-
-fn verdict_status(verdict: &Verdict) -> Status
-    ensures { result ≡ status_of_verdict verdict.now }
-{
-    match verdict {
-        Verdict::Yes => Status::Yes,
-        Verdict::Undecided(_, _) => Status::Undecided,
-        Verdict::TooWide(_, _) => Status::TooWide,
+    match outcome {
+        Outcome::NoCommand => Status::Usage,
+        Outcome::Unbuilt => Status::NotYet,
+        Outcome::Unread(_) => Status::ReadFault,
+        Outcome::Text(_, _) => Status::Text,
+        Outcome::Judged(Verdict::Yes) => Status::Yes,
+        Outcome::Judged(Verdict::Undecided(_, _)) => Status::Undecided,
+        Outcome::Judged(Verdict::TooWide(_, _)) => Status::TooWide,
+        Outcome::Checked(CheckEnd::Verified) => Status::Done,
+        Outcome::Checked(_) => Status::No,
+        Outcome::Memory => Status::Memory,
     }
 }
 
-fn check_status(end: CheckEnd) -> Status
-    ensures { result ≡ status_of_check end }
+/// What is written to `out`: a verdict, or how a check ended.
+fn to_out(alloc: Global, outcome: &Outcome) -> Result<Vec<u8>, AllocError>
+    ensures { IfOk result (λ text. text.items ≡ to_out outcome.now) }
 {
-    match end {
-        CheckEnd::Verified => Status::Done,
-        CheckEnd::Rejected(_, _) => Status::No,
-        CheckEnd::NoEmptyClause => Status::No,
+    match outcome {
+        Outcome::Judged(verdict) => Ok(verdict_lines(alloc, verdict)?.into_bytes()),
+        Outcome::Checked(end) => Ok(check_line(alloc, *end)?.into_bytes()),
+        _ => Ok(Vec::new(alloc)),
     }
 }
 
@@ -79,44 +66,29 @@ fn name_at(names: &[Vec<u8>], which: usize) -> &[u8]
     }
 }
 
+/// What is written to `err`, where the command's texts have these names.
+fn to_err(alloc: Global, outcome: &Outcome, names: &[Vec<u8>]) -> Result<Vec<u8>, AllocError>
+    ensures { IfOk result (λ text. text.items ≡ to_err (bytes_of names.now) outcome.now) }
+{
+    match outcome {
+        Outcome::NoCommand => Vec::from_slice(alloc, USAGE),
+        Outcome::Unbuilt => Vec::from_slice(alloc, NOT_YET),
+        Outcome::Unread(which) => cannot_read(alloc, name_at(names, *which)),
+        Outcome::Text(letter, why) => Ok(text_line(alloc, *letter, *why)?.into_bytes()),
+        _ => Ok(Vec::new(alloc)),
+    }
+}
+
 /// What an outcome says, where the command's texts have these names.
 pub fn answer_of(alloc: Global, outcome: &Outcome, names: &[Vec<u8>]) -> Result<Answer, AllocError>
     ensures status { IfOk result (λ a. a.status ≡ status_of outcome.now) }
     ensures out { IfOk result (λ a. a.out.items ≡ to_out outcome.now) }
     ensures err { IfOk result (λ a. a.err.items ≡ to_err (bytes_of names.now) outcome.now) }
 {
-    match outcome {
-        Outcome::NoCommand => on_err(alloc, Status::Usage, USAGE),
-        Outcome::Unbuilt => on_err(alloc, Status::NotYet, NOT_YET),
-        Outcome::Unread(which) => {
-            let line = cannot_read(alloc, name_at(names, *which))?;
-            on_err(alloc, Status::ReadFault, line.as_slice())
-        }
-        Outcome::Text(letter, why) => {
-            let line = text_line(alloc, *letter, *why)?;
-            on_err(alloc, Status::Text, line.as_bytes())
-        }
-        Outcome::Judged(verdict) => {
-            let lines = verdict_lines(alloc, verdict)?;
-            on_out(alloc, verdict_status(verdict), lines.as_bytes())
-        }
-        Outcome::Checked(end) => {
-            let line = check_line(alloc, *end)?;
-            on_out(alloc, check_status(*end), line.as_bytes())
-        }
-        Outcome::Memory => on_out(alloc, Status::Memory, b""),
-    }
-}
-
-/// Writes a piece. One that isn't written to its end has a status of its own.
-fn put_piece<K: Sink>(sink: &mut K, piece: &[u8]) -> Result<(), Status>
-    ensures { MatchResult result (λ _. Whole (K.told sink.old) (K.told sink.new) piece.now) (λ status. Stops piece.now status (K.told sink.old) (K.told sink.new)) }
-{
-    match sink.put(piece) {
-        Ok(()) => Ok(()),
-        Err(SinkEnd::Failed) => Err(Status::WriteFault),
-        Err(SinkEnd::Memory) => Err(Status::Memory),
-    }
+    let status = status_of(outcome);
+    let out = to_out(alloc, outcome)?;
+    let err = to_err(alloc, outcome, names)?;
+    Ok(Answer { status, out, err })
 }
 
 /// How many bytes the first line of a text has.
@@ -131,17 +103,20 @@ fn line_length(text: &[u8]) -> usize
     }
 }
 
-/// Writes a text, each of its lines as one piece.
+/// Writes a text, each of its lines as one piece. One that isn't written to its end has a status of
+/// its own.
 fn put_lines<K: Sink>(sink: &mut K, text: &[u8]) -> Result<(), Status>
-    ensures { MatchResult result (λ _. Whole (K.told sink.old) (K.told sink.new) text.now) (λ status. Stops text.now status (K.told sink.old) (K.told sink.new)) }
+    ensures { Puts text.now result (K.told sink.old) (K.told sink.new) }
 {
-    let mut rest = text;
-    while !rest.is_empty() {
-        let (line, more) = rest.split_at(line_length(rest));
-        put_piece(sink, line)?;
-        rest = more;
+    if text.is_empty() {
+        return Ok(());
     }
-    Ok(())
+    let (line, rest) = text.split_at(line_length(text));
+    match sink.put(line) {
+        Ok(()) => put_lines(sink, rest),
+        Err(SinkEnd::Failed) => Err(Status::WriteFault),
+        Err(SinkEnd::Memory) => Err(Status::Memory),
+    }
 }
 
 /// Writes an answer, and answers its status, or that of a line that wasn't written to its end.
@@ -151,7 +126,7 @@ pub fn deliver<O: Sink, E: Sink>(answer: &Answer, out: &mut O, err: &mut E) -> S
     if let Err(status) = put_lines(out, answer.out.as_slice()) {
         return status;
     }
-    match put_piece(err, answer.err.as_slice()) {
+    match put_lines(err, answer.err.as_slice()) {
         Ok(()) => answer.status,
         Err(status) => status,
     }

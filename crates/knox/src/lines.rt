@@ -3,7 +3,7 @@ ghost use Rattle.std.specs.Prelude.{◌≡◌, IfOk, string_bytes};
 ghost use Rattle.knox.specs.Lines as the;
 
 use crate::checking::CheckEnd;
-use crate::outcome::TextFault;
+use crate::outcome::TextFault::{self, OfDevice, OfProof};
 use expr_read::LangWhy;
 use knox_circuit::Why;
 use knox_text::Place;
@@ -24,118 +24,72 @@ pub fn cannot_read(alloc: Global, name: &[u8]) -> Result<Vec<u8>, AllocError>
     Ok(line)
 }
 
+/// The name of a variant that holds nothing.
+macro_rules! name_of {
+    ($value:ident: $kind:ident { $($variant:ident)* }) => {
+        match $value {
+            $($kind::$variant => stringify!($variant),)*
+        }
+    };
+}
+
 fn letter_name(letter: Letter) -> &'static str
     ensures { result.now ≡ the.letter_name letter }
 {
-    match letter {
-        Letter::C => "C",
-        Letter::S => "S",
-        Letter::D => "D",
-        Letter::E => "E",
-        Letter::H => "H",
-        Letter::T => "T",
-        Letter::F => "F",
-        Letter::P => "P",
-    }
+    name_of!(letter: Letter { C S D E H T F P })
 }
 
 fn rule_name(why: Why) -> &'static str
     ensures { result.now ≡ the.rule_name why }
 {
-    match why {
-        Why::TooManyLines => "TooManyLines",
-        Why::Number => "Number",
-        Why::Order => "Order",
-        Why::Constraint => "Constraint",
-        Why::Unsupported => "Unsupported",
-        Why::Keyword => "Keyword",
-        Why::Operand => "Operand",
-        Why::Sort => "Sort",
-        Why::Digits => "Digits",
-        Why::Width => "Width",
-        Why::Init => "Init",
-        Why::Next => "Next",
-        Why::TooManyWords => "TooManyWords",
-        Why::Memory => "Memory",
-    }
+    name_of!(why: Why {
+        TooManyLines Number Order Constraint Unsupported Keyword Operand
+        Sort Digits Width Init Next TooManyWords Memory
+    })
 }
 
 fn lang_name(why: LangWhy) -> &'static str
     ensures { result.now ≡ the.lang_name why }
 {
-    match why {
-        LangWhy::Form => "Form",
-        LangWhy::UnknownName => "UnknownName",
-        LangWhy::Twice => "Twice",
-        LangWhy::Width => "Width",
-        LangWhy::Arity => "Arity",
-        LangWhy::Bound => "Bound",
-        LangWhy::Missing => "Missing",
-        LangWhy::Memory => "Memory",
-    }
+    name_of!(why: LangWhy { Form UnknownName Twice Width Arity Bound Missing Memory })
 }
 
 fn script_name(why: ScriptWhy) -> &'static str
     ensures { result.now ≡ the.script_name why }
 {
-    match why {
-        ScriptWhy::Form => "Form",
-        ScriptWhy::UnknownName => "UnknownName",
-        ScriptWhy::Twice => "Twice",
-        ScriptWhy::Width => "Width",
-        ScriptWhy::Arity => "Arity",
-        ScriptWhy::Bound => "Bound",
-        ScriptWhy::Missing => "Missing",
-        ScriptWhy::Memory => "Memory",
-    }
-}
-
-/// A text's fault without a place.
-fn of_whole_text(alloc: Global, letter: Letter, word: &str) -> Result<String, AllocError>
-    ensures { IfOk result (λ line. string_bytes line ≡ the.whole_text_line letter word.now) }
-{
-    let letter = letter_name(letter);
-    format!(in alloc; "text {letter} {word}\n")
-}
-
-/// A fault on a line of a circuit's text.
-fn at_line(alloc: Global, letter: Letter, line: u32, word: &str) -> Result<String, AllocError>
-    ensures { IfOk result (λ shown. string_bytes shown ≡ the.at_line letter line word.now) }
-{
-    let letter = letter_name(letter);
-    format!(in alloc; "text {letter} line {line} {word}\n")
+    name_of!(why: ScriptWhy { Form UnknownName Twice Width Arity Bound Missing Memory })
 }
 
 /// A text's fault at a place.
 fn at_place(alloc: Global, letter: Letter, at: Place, word: &str) -> Result<String, AllocError>
-    ensures { IfOk result (λ shown. string_bytes shown ≡ the.at_place letter at word.now) }
+    ensures { IfOk result (λ line. string_bytes line ≡ the.at_place letter at word.now) }
 {
     let letter = letter_name(letter);
-    let line = at.line;
-    let column = at.column;
-    format!(in alloc; "text {letter} {line}:{column} {word}\n")
+    format!(in alloc; "text {letter} {}:{} {word}\n", at.line, at.column)
 }
 
 /// The line of the fault of a text.
 pub fn text_line(alloc: Global, letter: Letter, why: TextFault) -> Result<String, AllocError>
     ensures { IfOk result (λ line. string_bytes line ≡ the.text_line letter why) }
 {
+    let name = letter_name(letter);
     match why {
-        TextFault::OfDevice(TextWhy::TooLong) => of_whole_text(alloc, letter, "TooLong"),
-        TextFault::OfDevice(TextWhy::Circuit(fault)) => {
-            at_line(alloc, letter, fault.line, rule_name(fault.why))
+        OfDevice(TextWhy::TooLong) => format!(in alloc; "text {name} TooLong\n"),
+        OfDevice(TextWhy::Circuit(fault)) => {
+            let rule = rule_name(fault.why);
+            format!(in alloc; "text {name} line {} {rule}\n", fault.line)
         }
-        TextFault::OfDevice(TextWhy::Lang(fault)) => {
+        OfDevice(TextWhy::Lang(fault)) => {
             at_place(alloc, letter, fault.place, lang_name(fault.why))
         }
-        TextFault::OfDevice(TextWhy::Script(fault)) => {
+        OfDevice(TextWhy::Script(fault)) => {
             at_place(alloc, letter, fault.place, script_name(fault.why))
         }
-        TextFault::OfProof(ProofFault::Header(at)) => at_place(alloc, letter, at, "Header"),
-        TextFault::OfProof(ProofFault::Count(at)) => at_place(alloc, letter, at, "Count"),
-        TextFault::OfProof(ProofFault::Variable(at)) => at_place(alloc, letter, at, "Variable"),
-        TextFault::OfProof(ProofFault::Shape(at)) => at_place(alloc, letter, at, "Shape"),
-        TextFault::OfProof(ProofFault::Memory) => of_whole_text(alloc, letter, "Memory"),
+        OfProof(ProofFault::Header(at)) => at_place(alloc, letter, at, "Header"),
+        OfProof(ProofFault::Count(at)) => at_place(alloc, letter, at, "Count"),
+        OfProof(ProofFault::Variable(at)) => at_place(alloc, letter, at, "Variable"),
+        OfProof(ProofFault::Shape(at)) => at_place(alloc, letter, at, "Shape"),
+        OfProof(ProofFault::Memory) => format!(in alloc; "text {name} Memory\n"),
     }
 }
 
@@ -170,8 +124,7 @@ fn undecided(alloc: Global, hint: u32, words: &[Word]) -> Result<String, AllocEr
 {
     let mut lines = format!(in alloc; "undecided {hint}\nchoices")?;
     for word in words {
-        let value = word.value();
-        let spaced = format!(in alloc; " {value}")?;
+        let spaced = format!(in alloc; " {}", word.value())?;
         lines.push_str(spaced.as_str())?;
     }
     lines.push_str("\n")?;
@@ -185,10 +138,6 @@ pub fn verdict_lines(alloc: Global, verdict: &Verdict) -> Result<String, AllocEr
     match verdict {
         Verdict::Yes => String::from_str(alloc, "yes\n"),
         Verdict::Undecided(hint, words) => undecided(alloc, hint.0, words.words.as_slice()),
-        Verdict::TooWide(hint, bits) => {
-            let hint = hint.0;
-            let bits = *bits;
-            format!(in alloc; "too-wide {hint} {bits}\n")
-        }
+        Verdict::TooWide(hint, bits) => format!(in alloc; "too-wide {} {bits}\n", hint.0),
     }
 }

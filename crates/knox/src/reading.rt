@@ -1,6 +1,6 @@
 //! Reads a command's texts in the order of its words.
 ghost use Rattle.std.specs.Prelude.{◌≡◌, ◌<◌, ◌≤◌, ◌+◌, ◌^◌, length, MatchResult};
-ghost use Rattle.knox_edge.specs.Texts.{bytes_of};
+ghost use Rattle.knox.specs.Words.{bytes_of};
 ghost use Rattle.knox.specs.Reading.{ReadWhole, RefusesRead, letter_of};
 
 use crate::command::Command;
@@ -12,18 +12,14 @@ use knox_verify::{Letter, TextWhy};
 fn letter_of(command: Command, which: usize) -> Letter
     ensures { result ≡ letter_of command which }
 {
-    match command {
-        Command::Check => match which {
-            0 => Letter::F,
-            _ => Letter::P,
-        },
-        _ => match which {
-            0 => Letter::C,
-            1 => Letter::S,
-            2 => Letter::D,
-            3 => Letter::E,
-            _ => Letter::H,
-        },
+    match (command, which) {
+        (Command::Check, 0) => Letter::F,
+        (Command::Check, _) => Letter::P,
+        (_, 0) => Letter::C,
+        (_, 1) => Letter::S,
+        (_, 2) => Letter::D,
+        (_, 3) => Letter::E,
+        _ => Letter::H,
     }
 }
 

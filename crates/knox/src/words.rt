@@ -23,11 +23,7 @@ pub fn program_words<R: Env>(rt: &R, alloc: Global) -> Result<Words, NoWords> {
     let mut items = Vec::new(alloc);
     for place in 1..usize::MAX {
         match program_word(rt, alloc, place)? {
-            Some(word) => {
-                if items.push(word).is_err() {
-                    return Err(NoWords::Memory);
-                }
-            }
+            Some(word) => items.push(word).map_err(|_| NoWords::Memory)?,
             None => break,
         }
     }
@@ -39,9 +35,7 @@ fn program_word<R: Env>(rt: &R, alloc: Global, place: usize) -> Result<Option<Ve
     let mut capacity = 256usize;
     for _ in 0..usize::BITS {
         let mut bytes = Vec::new(alloc);
-        if bytes.resize(capacity, 0u8).is_err() {
-            return Err(NoWords::Memory);
-        }
+        bytes.resize(capacity, 0u8).map_err(|_| NoWords::Memory)?;
         match rt.arg(place, bytes.as_mut_slice()) {
             Ok(count) => {
                 bytes.truncate(count);

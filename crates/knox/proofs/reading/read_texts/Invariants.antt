@@ -1,5 +1,5 @@
 use Rattle.std.proofs.Common.{◌≡◌, ◌<◌, ◌+◌, length, take}
-use Rattle.knox_edge.specs.Texts.{bytes_of}
+use Rattle.knox.specs.Words.{bytes_of}
 use Rattle.knox.specs.Reading.{ReadWhole}
 use Rattle.knox.proofs.reading.read_texts.Given as goal
 
