@@ -1,12 +1,11 @@
 //! Checks the proof of a formula: each line is admitted as soon as it is read, so that no more than
 //! one of them is held.
-ghost use Rattle.std.specs.Prelude.{◌≡◌, ◌≤◌, ◌⊎◌, length, List, MatchResult, Ok, Err, OnOk, IfErr};
+ghost use Rattle.std.specs.Prelude.{◌≡◌, ◌≤◌, ◌⊎◌, ◌∷◌, length, List, Ok, Err, OnOk, IfOk, IfErr};
 ghost use Rattle.lrat_check.specs.declared.step.Step.TheVariants.{Memory};
 ghost use Rattle.proof_text.specs.declared.fault.ProofFault.TheVariants as fault;
-ghost use Rattle.proof_text.specs.declared.proof_line.ProofLine.{ProofLine};
-ghost use Rattle.proof_text.specs.Unread.{lines_left};
-ghost use Rattle.knox_edge.specs.Texts.{Bytes};
-ghost use Rattle.knox.specs.Checking.{line_number, with_line, EndsAs, Shows, Checks, HasFault, ChecksTo, cause_of};
+ghost use Rattle.proof_text.specs.Results.{and_then, Answers};
+ghost use Rattle.knox.specs.Words.{ProofLine, lines_left};
+ghost use Rattle.knox.specs.Checking.{line_number, with_line, end_of, end_with, Shows, ChecksTo, cause_of};
 
 use crate::outcome::{Outcome, TextFault};
 use knox_verify::Letter;
@@ -39,6 +38,7 @@ fn number_of(line: &ProofLine) -> u32
 fn take_line(derivation: &mut Derivation, line: &ProofLine) -> Result<(), Step>
     ensures ok { OnOk result (with_line derivation.old line.now ≡ Ok derivation.new) }
     ensures refused { IfErr result (λ why. (why ≡ Memory) ⊎ (with_line derivation.old line.now ≡ Err why)) }
+    ensures formula { derivation.new.cnf ≡ derivation.old.cnf }
 {
     match line {
         ProofLine::Add(_, id, lits, hints) => {
@@ -48,44 +48,46 @@ fn take_line(derivation: &mut Derivation, line: &ProofLine) -> Result<(), Step>
     }
 }
 
-/// Reads what is left of a proof, behind a line that is refused: a fault there comes first.
-fn read_on(alloc: Global, reader: LratReader<'_>) -> Result<(), ProofFault>
-    ensures { MatchResult result
-        (λ _. (ls : List ProofLine) × (lines_left reader.entry ≡ Ok ls))
-        (λ f. (f ≡ fault.Memory) ⊎ (lines_left reader.entry ≡ Err f)) }
+/// Takes a line, unless one before it was refused, and tells the first that is.
+fn go_on(
+    derivation: &mut Derivation,
+    refused: Option<(u32, Step)>,
+    line: &ProofLine,
+) -> Result<Option<(u32, Step)>, ProofFault>
+    ensures ok { IfOk result (λ now. (ls : List ProofLine) → end_with refused (line.now ∷ ls) derivation.old ≡ end_with now ls derivation.new) }
+    ensures memory { IfErr result (λ f. f ≡ fault.Memory) }
+    ensures formula { derivation.new.cnf ≡ derivation.old.cnf }
 {
-    let mut reader = reader;
-    while let Some(_) = reader.next_line(alloc)? {}
-    Ok(())
+    if refused.is_some() {
+        return Ok(refused);
+    }
+    match take_line(derivation, line) {
+        Ok(()) => Ok(None),
+        Err(Step::Memory) => Err(ProofFault::Memory),
+        Err(why) => Ok(Some((number_of(line), why))),
+    }
 }
 
-/// How the check of the lines that are left ends.
+/// How the check of the lines that are left ends. Behind a line that is refused they are still
+/// read, since a fault there comes first.
 fn check_lines(
     alloc: Global,
     derivation: Derivation,
     reader: LratReader<'_>,
 ) -> Result<CheckEnd, ProofFault>
-    ensures ends { MatchResult result
-        (λ end. (ls : List ProofLine) × (lines_left reader.entry ≡ Ok ls) × EndsAs derivation ls end)
-        (λ f. (f ≡ fault.Memory) ⊎ (lines_left reader.entry ≡ Err f)) }
-    ensures shows { MatchResult result (λ end. Shows end derivation.cnf) (λ _. Unit {0}) }
+    ensures ends { Answers result (and_then (lines_left reader.entry) (λ ls. Ok (end_of ls derivation))) }
+    ensures shows { IfOk result (λ end. Shows end derivation.cnf) }
 {
     let mut derivation = derivation;
     let mut reader = reader;
+    let mut refused = None;
     while let Some(line) = reader.next_line(alloc)? {
-        match take_line(&mut derivation, &line) {
-            Ok(()) => {}
-            Err(Step::Memory) => return Err(ProofFault::Memory),
-            Err(why) => {
-                read_on(alloc, reader)?;
-                return Ok(CheckEnd::Rejected(number_of(&line), why));
-            }
-        }
+        refused = go_on(&mut derivation, refused, &line)?;
     }
-    if derivation.closed() {
-        Ok(CheckEnd::Verified)
-    } else {
-        Ok(CheckEnd::NoEmptyClause)
+    match refused {
+        Some((number, why)) => Ok(CheckEnd::Rejected(number, why)),
+        None if derivation.closed() => Ok(CheckEnd::Verified),
+        None => Ok(CheckEnd::NoEmptyClause),
     }
 }
 
@@ -99,20 +101,12 @@ fn cause(letter: Letter, fault: ProofFault) -> Outcome
     }
 }
 
-/// The check of two texts has one end, or one fault, and not both.
-fn checks_have_one_end()
-    ensures end { (f p : Bytes) (a b : CheckEnd) → Checks a f p → Checks b f p → a ≡ b }
-    ensures no_fault { (f p : Bytes) (a : CheckEnd) (letter : Letter) (why : ProofFault) → Checks a f p → HasFault letter why f p → ⊥ }
-    ensures fault { (f p : Bytes) (letter other : Letter) (why how : ProofFault) → HasFault letter why f p → HasFault other how f p → (letter ≡ other) × (why ≡ how) }
-{}
-
 /// Checks a proof of a formula, by their bytes.
 pub fn check_texts(alloc: Global, formula: &[u8], proof: &[u8]) -> Outcome
     requires formula { length formula.now ≤ 67108864 }
     requires proof { length proof.now ≤ 67108864 }
     ensures { ChecksTo result formula.now proof.now }
 {
-    checks_have_one_end();
     let cnf = match read_cnf(alloc, formula) {
         Ok(cnf) => cnf,
         Err(fault) => return cause(Letter::F, fault),
