@@ -1,15 +1,13 @@
--- What holds of a derivation's fields is kept.
-use Rattle.std.proofs.Common.{◌≡◌, ℕ, Bool, true, false, ◌||◌, List, [], ◌∷◌, ◌++◌, refl, sym, ◌∙◌, ap, subst, Result, Ok, map, length}
-use Rattle.std.specs.Prelude.{ℤ}
+-- What holds of the fields of a database, and of a derivation, is kept.
+use Rattle.std.proofs.Common.{◌≡◌, ℕ, Bool, true, false, ◌||◌, List, [], ◌∷◌, ◌++◌, refl, sym, ◌∙◌, ap, Result, Ok, Err, map, length}
+use Rattle.std.specs.Prelude.{ℤ, OnOk, OnErr}
 use Rattle.std.specs.List.{list_any}
 use Rattle.std.proofs.lemmas.List.Folds.{list_any-append}
 use Rattle.knox_cnf.specs.Literals.{Literal}
-use Rattle.knox_cnf.specs.declared.formula.Cnf.{Cnf}
-use Rattle.lrat_check.specs.declared.step.Step.{Step}
 use Rattle.lrat_check.specs.declared.lemma.Lemma.{Lemma}
 use Rattle.lrat_check.specs.Register.{Entries, entries, with_id}
-use Rattle.lrat_check.specs.Hints.{Answers, check}
-use Rattle.lrat_check.specs.Derivations.{proof, lemma, id_of, lits_of, clauses_with, entries_with, live_in, live_clause, is_empty, IsLrup}
+use Rattle.lrat_check.specs.Hints.{check}
+use Rattle.lrat_check.specs.Derivations.{Proof, lemma, id_of, lits_of, clauses_with, entries_with, live_clause, with_lemma, is_empty, IsLrup}
 use Rattle.lrat_check.proofs.Sound.{IsLrup-push}
 
 -- ---- deleting
@@ -17,15 +15,12 @@ use Rattle.lrat_check.proofs.Sound.{IsLrup-push}
 pub register-kept : (cs : List (List Literal)) (ms : List Lemma) (old new : Entries) → old ≡ entries_with cs ms old.live → new ≡ entries old.formula old.ids new.live → new ≡ entries_with cs ms new.live
 register-kept cs ms old new e k = k ∙ ap (λ (x : Entries). entries x.formula x.ids new.live) e
 
--- ---- checking
-
-pub answers-live : (cnf : Cnf) (ms : List Lemma) (register : Entries) (lits : List Literal) (hs : List ℤ) (r : Result (Unit {0}) Step) → register ≡ entries_with cnf.clauses ms register.live → Answers r (check (live_in register (clauses_with cnf.clauses ms)) lits hs) → Answers r (check (live_clause (proof cnf ms register.live)) lits hs)
-answers-live cnf ms register lits hs r e a = subst (λ (x : Entries). Answers r (check (live_in x (clauses_with cnf.clauses ms)) lits hs)) e a
-
 -- ---- adding
 
-pub add-lrup : (cnf : Cnf) (ms more : List Lemma) (live : List Bool) (n : ℕ) (lits : List Literal) (hs : List ℤ) (m : Lemma) → IsLrup cnf.clauses ms → check (live_clause (proof cnf ms live)) lits hs ≡ Ok tt → m ≡ lemma n lits hs → more ≡ ms ++ m ∷ [] → IsLrup cnf.clauses more
-add-lrup cnf ms more live n lits hs m i s e k = rw k (rw e (IsLrup-push (proof cnf ms live) n lits hs i s))
+-- a derivation whose lemma was added, or for which memory ran out
+pub pushed-lrup : {E : Type 0} (old new : Proof) (n : ℕ) (lits : List Literal) (hs : List ℤ) (r : Result (Unit {0}) E) → check (live_clause old) lits hs ≡ Ok tt → OnOk r (new ≡ with_lemma old (lemma n lits hs)) → OnErr r (new ≡ old) → IsLrup old.cnf.clauses old.lemmas → IsLrup new.cnf.clauses new.lemmas
+pushed-lrup old new n lits hs (Ok x) s k e i = rw k (IsLrup-push old n lits hs i s)
+pushed-lrup old new n lits hs (Err x) s k e i = rw e i
 
 ids-more : (ms : List Lemma) (m : Lemma) → map id_of ms ++ m.id ∷ [] ≡ map id_of (ms ++ m ∷ [])
 ids-more [] m = refl

@@ -70,12 +70,8 @@ place_of-formula n id ids live low high = place_in-numbers n 1 (id - 1) id ids (
 past : (n id : ℕ) → ((1 ≤ id → id ≤ n → ⊥)) → (k : ℕ) → k < n → id ≡ 1 + k → ⊥
 past n id out k lt e = out (omega arith) (omega arith)
 
-pub place_of-lemma : (n id : ℕ) (ids : List ℕ) (live : List Bool) (at : ℕ) → (1 ≤ id → id ≤ n → ⊥) → Rises ids → at < length ids → get_or ids at 0 ≡ id → place_of (entries n ids live) id ≡ Some (n + at)
-place_of-lemma n id ids live at out r within e =
-    place_in-others n 1 id ids (past n id out) ∙ ap (later_by n) (place_in-at ids at id r within e)
-
-pub place_of-none : (n id : ℕ) (ids : List ℕ) (live : List Bool) → (1 ≤ id → id ≤ n → ⊥) → ((k : ℕ) → k < length ids → get_or ids k 0 ≡ id → ⊥) → place_of (entries n ids live) id ≡ None
-place_of-none n id ids live out none = place_in-others n 1 id ids (past n id out) ∙ ap (later_by n) (place_in-none ids id none)
+pub place_of-lemmas : (n id : ℕ) (ids : List ℕ) (live : List Bool) → (1 ≤ id → id ≤ n → ⊥) → place_of (entries n ids live) id ≡ later_by n (place_in ids id)
+place_of-lemmas n id ids live out = place_in-others n 1 id ids (past n id out)
 
 pub found_apart : (xs : List ℕ) (i v : ℕ) → ((k : ℕ) → k < i → get_or xs k 0 < v) → ((k : ℕ) → i ≤ k → k < length xs → v < get_or xs k 0) → (k : ℕ) → k < length xs → get_or xs k 0 ≡ v → ⊥
 found_apart xs i v low high k lt e =

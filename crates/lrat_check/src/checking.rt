@@ -1,60 +1,24 @@
 //! The check of a lemma against the live clauses, and its parts.
-ghost use Rattle.std.specs.Prelude.{◌≡◌, ◌++◌, ◌∷◌, [], true, map, slice_get, OnOk, IfErr};
-ghost use Rattle.std.specs.Option.{option_copied};
+ghost use Rattle.std.specs.Prelude.{◌≡◌, [], map, OnOk, IfErr};
 ghost use Rattle.std.specs.List.{list_any};
 ghost use Rattle.knox_cnf.specs.Literals.{has, complement};
 ghost use Rattle.lrat_check.specs.declared.step.Step.TheVariants.{Memory};
 ghost use Rattle.lrat_check.specs.Hints.{Answers, Takes, after_clause, after_hints, take_hints as hints_taken, check as checked, is_negative};
 ghost use Rattle.lrat_check.specs.Marks.{all_with_true, Extends};
-ghost use Rattle.lrat_check.specs.Derivations.{clauses_with, live_in};
+ghost use Rattle.lrat_check.specs.Derivations.{live_clause};
 
-use crate::lemma::Lemma;
+use crate::database::Database;
 use crate::marks::Marks;
 use crate::reading::{Reading, read};
-use crate::register::Register;
 use crate::step::Step;
-use knox_cnf::{Clause, Lit};
-
-/// The clause at a place: those of the formula come first.
-fn clause_at<'a>(formula: &'a [Clause], lemmas: &'a [Lemma], place: usize) -> Option<&'a Clause>
-    ensures { option_copied result ≡ slice_get (clauses_with formula.now lemmas.now) place }
-{
-    if place < formula.len() {
-        return formula.get(place);
-    }
-    match lemmas.get(place - formula.len()) {
-        None => None,
-        Some(lemma) => Some(&lemma.lits),
-    }
-}
-
-/// The live clause that an id names.
-pub fn live_clause<'a>(
-    formula: &'a [Clause],
-    lemmas: &'a [Lemma],
-    register: &Register,
-    id: u64,
-) -> Option<&'a Clause>
-    ensures { option_copied result ≡ live_in register.now (clauses_with formula.now lemmas.now) id }
-{
-    match register.live_place(id) {
-        None => None,
-        Some(place) => clause_at(formula, lemmas, place),
-    }
-}
+use knox_cnf::Lit;
 
 /// Takes one hint: true where the check has ended.
-fn take_hint(
-    formula: &[Clause],
-    lemmas: &[Lemma],
-    register: &Register,
-    marks: &mut Marks,
-    id: u64,
-) -> Result<bool, Step>
-    ensures takes { Takes (after_clause marks.old id (live_in register.now (clauses_with formula.now lemmas.now) id)) result marks.new }
+fn take_hint(database: &Database, marks: &mut Marks, id: u64) -> Result<bool, Step>
+    ensures takes { Takes (after_clause marks.old id (live_clause database.now id)) result marks.new }
     ensures more { Extends marks.old marks.new }
 {
-    let Some(clause) = live_clause(formula, lemmas, register, id) else {
+    let Some(clause) = database.live_clause(id) else {
         return Err(Step::NoSuchClause(id));
     };
     match read(marks, clause.lits()) {
@@ -70,19 +34,13 @@ fn take_hint(
 }
 
 /// Takes hints in order: true where the check has ended.
-pub fn walk_hints(
-    formula: &[Clause],
-    lemmas: &[Lemma],
-    register: &Register,
-    marks: &mut Marks,
-    hints: &[i64],
-) -> Result<bool, Step>
-    ensures takes { Takes (after_hints (live_in register.now (clauses_with formula.now lemmas.now)) marks.old hints.now) result marks.new }
+pub fn walk_hints(database: &Database, marks: &mut Marks, hints: &[i64]) -> Result<bool, Step>
+    ensures takes { Takes (after_hints (live_clause database.now) marks.old hints.now) result marks.new }
     ensures more { Extends marks.old marks.new }
 {
     for hint in hints {
         let id = hint.unsigned_abs();
-        match take_hint(formula, lemmas, register, marks, id) {
+        match take_hint(database, marks, id) {
             Err(step) => return Err(step),
             Ok(true) => return Ok(true),
             Ok(false) => {}
@@ -91,16 +49,10 @@ pub fn walk_hints(
     Ok(false)
 }
 
-fn take_hints(
-    formula: &[Clause],
-    lemmas: &[Lemma],
-    register: &Register,
-    marks: &mut Marks,
-    hints: &[i64],
-) -> Result<(), Step>
-    ensures { Answers result (hints_taken (live_in register.now (clauses_with formula.now lemmas.now)) marks.old hints.now) }
+fn take_hints(database: &Database, marks: &mut Marks, hints: &[i64]) -> Result<(), Step>
+    ensures { Answers result (hints_taken (live_clause database.now) marks.old hints.now) }
 {
-    match walk_hints(formula, lemmas, register, marks, hints) {
+    match walk_hints(database, marks, hints) {
         Err(step) => Err(step),
         Ok(true) => Ok(()),
         Ok(false) => Err(Step::NoConflict),
@@ -130,15 +82,13 @@ pub fn is_contradictory(marks: &Marks, lits: &[Lit]) -> bool
 
 /// Checks a lemma, and leaves assumptions behind.
 pub fn check(
-    formula: &[Clause],
-    lemmas: &[Lemma],
-    register: &Register,
+    database: &Database,
     marks: &mut Marks,
     lits: &[Lit],
     hints: &[i64],
 ) -> Result<(), Step>
     requires { marks.old ≡ [] }
-    ensures { Answers result (checked (live_in register.now (clauses_with formula.now lemmas.now)) lits.now hints.now) }
+    ensures { Answers result (checked (live_clause database.now) lits.now hints.now) }
 {
     match deny(marks, lits) {
         Ok(()) => {}
@@ -147,7 +97,7 @@ pub fn check(
     if is_contradictory(marks, lits) {
         return Ok(());
     }
-    take_hints(formula, lemmas, register, marks, hints)
+    take_hints(database, marks, hints)
 }
 
 /// Whether a hint is negative.

@@ -1,5 +1,5 @@
 //! Which literals are taken to be true.
-ghost use Rattle.std.specs.Prelude.{◌≡◌, ◌<◌, ◌^◌, ◌++◌, ◌∷◌, [], OnOk, OnErr, IfOk, true, false, length, take, ◌-◌};
+ghost use Rattle.std.specs.Prelude.{◌≡◌, ◌<◌, ◌^◌, ◌+◌, ◌*◌, nat_lt, if◌then◌else◌, ◌++◌, ◌∷◌, [], OnOk, OnErr, IfOk, true, false, length, take, ◌-◌};
 ghost use Rattle.knox_cnf.specs.Literals.{has};
 ghost use Rattle.lrat_check.specs.Marks.{index_of, with_true};
 
@@ -7,6 +7,9 @@ use knox_cnf::Lit;
 use std::alloc::{AllocError, Global};
 use std::collections::BTreeSet;
 use std::marker::Model;
+
+/// The table has places for so many variables at most. The literals of others stand in a set.
+const NEAR_VARIABLES: u64 = 10_000_000;
 
 /// The literals that are taken to be true, in order. A table tells of the literals of the first
 /// variables, and a set of the others, so that a literal costs no more than itself.
@@ -29,7 +32,19 @@ impl Model for Marks {
     ghost invariant = { λ m. Tell m.near.items m.far m.trail.items };
 }
 
-fn index(lit: Lit) -> u64
+/// How many places the table has for a formula of so many variables.
+pub fn places_for(vars: u64) -> usize
+    ensures { result ≡ 2 * (if nat_lt vars NEAR_VARIABLES then vars else NEAR_VARIABLES) + 2 }
+{
+    if vars < NEAR_VARIABLES {
+        (2 * vars + 2) as usize
+    } else {
+        (2 * NEAR_VARIABLES + 2) as usize
+    }
+}
+
+/// The number of a literal, which no other has.
+pub fn index(lit: Lit) -> u64
     ensures value { result ≡ index_of lit }
 {
     let double = lit.var() * 2;

@@ -1,7 +1,7 @@
 //! The places of clauses, over plain lists: so many clauses of a formula, and the ids of the lemmas.
-ghost use Rattle.std.specs.Prelude.{◌≡◌, ◌≤◌, ◌<◌, ◌+◌, ◌^◌, ◌↔◌, ◌==◌, ◌||◌, ◌&&◌, ℕ, [], nat_lt, IfSome, IsTrue, length, slice_index, slice_index_or, true, false};
+ghost use Rattle.std.specs.Prelude.{◌≡◌, ◌≤◌, ◌<◌, ◌+◌, ◌-◌, ◌^◌, ◌↔◌, ◌==◌, ◌||◌, ◌&&◌, ℕ, [], nat_lt, IfSome, IsTrue, length, slice_index, slice_index_or, true, false};
 ghost use Rattle.std.specs.List.{list_all};
-ghost use Rattle.lrat_check.specs.Register.{Rises, entries, place_of, live_place as live_at, is_new, revived, numbers_from};
+ghost use Rattle.lrat_check.specs.Register.{Rises, entries, place_in, place_of, live_place as live_at, is_new, revived, numbers_from};
 
 /// Whether the id names a clause of the formula.
 fn names_formula(formula: usize, id: u64) -> bool
@@ -19,10 +19,42 @@ pub fn place(formula: usize, ids: &[u64], id: u64) -> Option<usize>
     if names_formula(formula, id) {
         return Some((id - 1) as usize);
     }
+    match position(ids, id) {
+        Some(at) => Some(formula + at),
+        None => None,
+    }
+}
+
+/// The place of a number among rising ones. It is tried first where it stands if they follow one another.
+fn position(ids: &[u64], id: u64) -> Option<usize>
+    requires { Rises ids.now }
+    ensures value { result ≡ place_in ids.now id }
+    ensures within { IfSome result (λ at. at < length ids.now) }
+{
+    let at = distance(ids, id);
+    if stands_at(ids, at, id) {
+        return Some(at);
+    }
     match ids.binary_search(&id) {
-        Ok(at) => Some(formula + at),
+        Ok(at) => Some(at),
         Err(_) => None,
     }
+}
+
+/// How far a number is above the first of these.
+fn distance(ids: &[u64], id: u64) -> usize
+    ensures { result ≡ id - slice_index ids.now 0 }
+{
+    match ids.first() {
+        None => id as usize,
+        Some(first) => id.saturating_sub(*first) as usize,
+    }
+}
+
+fn stands_at(ids: &[u64], at: usize, id: u64) -> bool
+    ensures { IsTrue result → (at < length ids.now) × (slice_index ids.now at ≡ id) }
+{
+    at < ids.len() && ids[at] == id
 }
 
 /// Whether the id is above every id of a clause.

@@ -39,20 +39,6 @@ impl Register {
         })
     }
 
-    /// How many clauses the formula has.
-    pub fn formula(&self) -> usize
-        ensures { result ≡ self.now.formula }
-    {
-        self.formula
-    }
-
-    /// The ids of the lemmas.
-    pub fn ids(&self) -> &[u64]
-        ensures { result.now ≡ self.now.ids }
-    {
-        self.ids.as_slice()
-    }
-
     /// Whether the id is above every id before.
     pub fn is_new(&self, id: u64) -> bool
         ensures { result ≡ is_new_id self.now id }

@@ -1,10 +1,13 @@
 -- The parts of hints.
-use Rattle.std.proofs.Common.{◌≡◌, ℕ, ◌+◌, ◌<◌, ◌==◌, Bool, true, false, ◌&&◌, ◌||◌, List, [], ◌∷◌, ◌++◌, length, take, drop, drop-cons, get_or, add-one, refl, sym, ◌∙◌, ap, append_assoc}
+use Rattle.std.proofs.Common.{◌≡◌, ℕ, ◌+◌, ◌<◌, ◌==◌, Bool, true, false, not, ◌&&◌, ◌||◌, Option, List, [], ◌∷◌, ◌++◌, length, take, drop, drop-cons, get_or, add-one, refl, sym, ◌∙◌, ap, append_assoc}
 use Rattle.std.specs.Prelude.{ℤ, pos, unsigned_abs}
 use Rattle.std.specs.List.{list_any}
+use Rattle.std.proofs.lemmas.Bool.{and_parts, or_left, or_right}
 use Rattle.std.proofs.lemmas.List.{take_more, append-nil}
+use Rattle.knox_cnf.specs.Literals.{Literal}
 use Rattle.lrat_check.specs.Hints.{is_negative}
-use Rattle.rat_check.specs.Groups.{Parts, parts, group, with_hint, parts_of, has_group}
+use Rattle.rat_check.specs.Groups.{Group, Parts, parts, group, with_hint, parts_of, has_group, PassesGroup}
+use Rattle.rat_check.specs.Rat.{holds_in, is_uncovered}
 
 at-hint : (hs : List ℤ) (at : ℕ) (h : ℤ) → at < length hs → h ≡ get_or hs at (pos 0) → parts_of (drop at hs) ≡ with_hint h (is_negative h) (parts_of (drop (at + 1) hs))
 at-hint hs at h inside e = rw (e, add-one, drop-cons hs at (pos 0)) refl
@@ -54,3 +57,22 @@ starts h false p e = absurd (cc)
 
 pub first-group : (h : ℤ) (hs : List ℤ) → (parts_of (h ∷ hs)).lead ≡ [] → (parts_of (h ∷ hs)).groups ≡ group (unsigned_abs h) (parts_of hs).lead ∷ (parts_of hs).groups
 first-group h hs e = ap (λ b. (with_hint h b (parts_of hs)).groups) (starts h (is_negative h) (parts_of hs) e)
+
+-- ---- groups in step with the clauses
+
+pub passes-group : (h : ℤ) (hs left rest : List ℤ) (i : ℕ) → left ≡ h ∷ hs → (is_negative h && (unsigned_abs h == i)) ≡ true → (parts_of hs).groups ≡ (parts_of rest).groups → PassesGroup left i rest
+passes-group h hs left rest i split t same =
+    let begins = and_parts (is_negative h) (unsigned_abs h == i) t in
+    let own : (parts_of left).groups ≡ group (unsigned_abs h) (parts_of hs).lead ∷ (parts_of rest).groups =
+    ap (λ l. (parts_of l).groups) split ∙ ap (λ b. (with_hint h b (parts_of hs)).groups) begins.0 ∙ ap (λ gs. group (unsigned_abs h) (parts_of hs).lead ∷ gs) same in
+    record {
+      about = ap (λ gs. has_group gs i) own ∙ or_left (unsigned_abs h == i) (has_group (parts_of rest).groups i) begins.1;
+      others = λ j k. ap (λ gs. has_group gs j) own ∙ or_right (unsigned_abs h == j) (has_group (parts_of rest).groups j) k;
+    }
+
+and_false : (b : Bool) → (b && false) ≡ false
+and_false true = refl
+and_false false = refl
+
+pub grouped-covered : (clause : ℕ → Option (List Literal)) (q : Literal) (gs : List Group) (i : ℕ) → has_group gs i ≡ true → is_uncovered clause q gs i ≡ false
+grouped-covered clause q gs i e = ap (λ b. holds_in (clause i) q && not b) e ∙ and_false (holds_in (clause i) q)

@@ -1,12 +1,11 @@
 -- The answers of groups, of the pivot and of a lemma, part by part.
-use Rattle.std.proofs.Common.{◌≡◌, ℕ, suc, ◌+◌, ◌-◌, ◌<◌, Bool, true, false, cond, List, [], ◌∷◌, ◌++◌, length, take, drop, drop-cons, get_or, add-one, refl, sym, ◌∙◌, ap, subst, inl, inr, Option, Some, None, Result, Ok, Err, map, arith}
+use Rattle.std.proofs.Common.{◌≡◌, ℕ, Bool, true, false, cond, List, [], ◌∷◌, take, drop, refl, sym, ◌∙◌, ap, subst, inl, inr, Option, Result, Ok, Err, map}
 use Rattle.std.specs.Prelude.{ℤ, unsigned_abs}
 use Rattle.std.specs.List.{list_any, find}
 use Rattle.knox_cnf.specs.Literals.{Literal, complement, has}
 use Rattle.lrat_check.specs.declared.step.Step.{Step}
 use Rattle.lrat_check.specs.declared.step.Step.TheVariants.{Memory as Full}
 use Rattle.lrat_check.specs.Marks.{all_with_true}
-use Rattle.lrat_check.specs.Register.{numbers_from}
 use Rattle.lrat_check.specs.Hints.{after_hints, is_tautology, Takes}
 use Rattle.rat_check.specs.declared.rat_step.RatStep.{RatStep}
 use Rattle.rat_check.specs.declared.rat_step.RatStep.TheVariants.{NoConflict}
@@ -107,33 +106,3 @@ pivot-refused clause ids l ls lits gs t e split a =
 pub pivot-covered : (clause : ℕ → Option (List Literal)) (ids : List ℕ) (l : Literal) (ls lits : List Literal) (gs : List Group) (t : List Literal) (o : Option ℕ) → lits ≡ l ∷ ls → Answers (Ok tt) (groups_answer clause (complement l) t gs) → o ≡ find (is_uncovered clause (complement l) gs) ids → Answers (covered gs o) (by_pivot clause ids lits gs t)
 pivot-covered clause ids l ls lits gs t o split a e =
     rw (split, e) (inr (ap (λ r. first_then r (covered gs (find (is_uncovered clause (complement l) gs) ids))) (sym (Ok-answer (groups_answer clause (complement l) t gs) a))))
-
--- ---- clauses that are left
-
-numbers-step : (n at : ℕ) → at < n → numbers_from (at + 1) (n - at) ≡ (at + 1) ∷ numbers_from (at + 1 + 1) (n - (at + 1))
-numbers-step n at lt =
-    let one : n - at ≡ suc (n - (at + 1)) = omega arith in
-    let next : suc (at + 1) ≡ at + 1 + 1 = omega arith in
-    ap (numbers_from (at + 1)) one ∙ ap (λ k. (at + 1) ∷ numbers_from k (n - (at + 1))) next
-
-pub find-number : (p : ℕ → Bool) (n at : ℕ) → at < n → find p (numbers_from (at + 1) (n - at)) ≡ cond (p (at + 1)) (Some (at + 1)) (find p (numbers_from (at + 1 + 1) (n - (at + 1))))
-find-number p n at lt = ap (find p) (numbers-step n at lt)
-
-pub find-at : (p : ℕ → Bool) (ids : List ℕ) (at : ℕ) → at < length ids → find p (drop at ids) ≡ cond (p (get_or ids at 0)) (Some (get_or ids at 0)) (find p (drop (at + 1) ids))
-find-at p ids at lt = rw (add-one, drop-cons ids at 0) refl
-
-behind : (b : Bool) (x : ℕ) (o more r : Option ℕ) → cond b (Some x) o ≡ None → (o ≡ None → more ≡ r) → cond b (Some x) more ≡ r
-behind true x o more r e k = absurd (cc)
-behind false x o more r e k = k e
-
-before : (b : Bool) (x i : ℕ) (o more : Option ℕ) → cond b (Some x) o ≡ Some i → (o ≡ Some i → more ≡ Some i) → cond b (Some x) more ≡ Some i
-before true x i o more e k = e
-before false x i o more e k = k e
-
-pub find-behind : (p : ℕ → Bool) (xs ys : List ℕ) → find p xs ≡ None → find p (xs ++ ys) ≡ find p ys
-find-behind p [] ys e = refl
-find-behind p (x ∷ xs) ys e = behind (p x) x (find p xs) (find p (xs ++ ys)) (find p ys) e (find-behind p xs ys)
-
-pub find-before : (p : ℕ → Bool) (xs ys : List ℕ) (i : ℕ) → find p xs ≡ Some i → find p (xs ++ ys) ≡ Some i
-find-before p [] ys i e = absurd (cc)
-find-before p (x ∷ xs) ys i e = before (p x) x i (find p xs) (find p (xs ++ ys)) e (find-before p xs ys i)

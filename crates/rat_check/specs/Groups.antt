@@ -1,6 +1,6 @@
 -- The parts of the hints of a lemma, after LRAT: those before the first negative one, and a group for each
 -- negative hint -i, which is about the clause i and ends before the next negative hint.
-use Rattle.std.specs.Prelude.{ℕ, ◌==◌, Bool, true, false, List, [], ◌∷◌, ℤ, unsigned_abs}
+use Rattle.std.specs.Prelude.{ℕ, ◌≡◌, ◌==◌, Bool, true, false, List, [], ◌∷◌, ℤ, unsigned_abs}
 use Rattle.std.specs.List.{list_any}
 use Rattle.lrat_check.specs.Hints.{is_negative}
 
@@ -30,3 +30,8 @@ parts_of (h ∷ hs) = with_hint h (is_negative h) (parts_of hs)
 -- a group is about this clause
 abbrev pub has_group : List Group → ℕ → Bool
 has_group gs i = list_any (λ (g : Group). g.id == i) gs
+
+-- hints with a group about this clause, and hints whose groups are all among theirs
+pub record PassesGroup (hs : List ℤ) (i : ℕ) (rest : List ℤ) : Type 0 where
+  pub about : has_group (parts_of hs).groups i ≡ true
+  pub others : (j : ℕ) → has_group (parts_of rest).groups j ≡ true → has_group (parts_of hs).groups j ≡ true

@@ -2,18 +2,20 @@
 ghost use Rattle.std.specs.Prelude.{◌≡◌, ◌++◌, ◌∷◌, [], true, map, OnOk, IfErr};
 ghost use Rattle.std.specs.List.{list_any};
 ghost use Rattle.knox_cnf.specs.Literals.{has, complement};
-ghost use Rattle.lrat_check.specs.Register.{all_ids};
+ghost use Rattle.lrat_check.specs.Register.{all_ids, Rises};
 ghost use Rattle.lrat_check.specs.Marks.{all_with_true, Extends};
 ghost use Rattle.lrat_check.specs.Hints.{after_hints};
-ghost use Rattle.lrat_check.specs.Derivations.{clauses_with, live_in};
+ghost use Rattle.lrat_check.specs.Derivations.{entries_of, live_clause};
 ghost use Rattle.rat_check.specs.Groups.{parts_of, group};
+ghost use Rattle.rat_check.specs.Occurrences.{AreListed};
 ghost use Rattle.rat_check.specs.Rat.{told as told_of, others, group_ended, group_shown as shown, group_answer, groups_answer, pivotless, left_over, by_pivot as answer_by_pivot, check as checked, Answers};
 
 use crate::covering::{first_uncovered, holds};
 use crate::grouping::lead_len;
+use crate::occurrences::Occurrences;
 use crate::rat_step::RatStep;
-use knox_cnf::{Clause, Lit};
-use lrat_check::{Lemma, Marks, Register, Step, deny, is_contradictory, live_clause, walk_hints};
+use knox_cnf::Lit;
+use lrat_check::{Database, Marks, Step, deny, is_contradictory, walk_hints};
 
 fn told(step: Step) -> RatStep
     ensures { result ≡ told_of step }
@@ -52,22 +54,20 @@ fn deny_others(marks: &mut Marks, lit: Lit, clause: &[Lit]) -> Result<(), RatSte
 
 /// Takes the hints of a group, and leaves assumptions behind.
 fn show_group(
-    formula: &[Clause],
-    lemmas: &[Lemma],
-    register: &Register,
+    database: &Database,
     marks: &mut Marks,
     lit: Lit,
     clause: &[Lit],
     hints: &[i64],
 ) -> Result<(), RatStep>
-    ensures answer { Answers result (group_ended (after_hints (live_in register.now (clauses_with formula.now lemmas.now)) (all_with_true marks.old (map complement (others lit clause.now))) hints.now)) }
+    ensures answer { Answers result (group_ended (after_hints (live_clause database.now) (all_with_true marks.old (map complement (others lit clause.now))) hints.now)) }
     ensures more { Extends marks.old marks.new }
 {
     match deny_others(marks, lit, clause) {
         Ok(()) => {}
         Err(step) => return Err(step),
     }
-    match walk_hints(formula, lemmas, register, marks, hints) {
+    match walk_hints(database, marks, hints) {
         Err(step) => Err(told(step)),
         Ok(true) => Ok(()),
         Ok(false) => Err(RatStep::NoConflict),
@@ -76,18 +76,16 @@ fn show_group(
 
 /// Takes one group, and takes back what it assumed.
 fn take_group(
-    formula: &[Clause],
-    lemmas: &[Lemma],
-    register: &Register,
+    database: &Database,
     marks: &mut Marks,
     lit: Lit,
     id: u64,
     hints: &[i64],
 ) -> Result<(), RatStep>
-    ensures answer { Answers result (group_answer (live_in register.now (clauses_with formula.now lemmas.now)) lit marks.old (group id hints.now)) }
+    ensures answer { Answers result (group_answer (live_clause database.now) lit marks.old (group id hints.now)) }
     ensures same { marks.new ≡ marks.old }
 {
-    let Some(clause) = live_clause(formula, lemmas, register, id) else {
+    let Some(clause) = database.live_clause(id) else {
         return Err(RatStep::NoSuchClause(id));
     };
     if !holds(clause.lits(), lit) {
@@ -97,29 +95,27 @@ fn take_group(
         return Ok(());
     }
     let first = marks.len();
-    let answer = show_group(formula, lemmas, register, marks, lit, clause.lits(), hints);
+    let answer = show_group(database, marks, lit, clause.lits(), hints);
     marks.undo(first);
     answer
 }
 
 /// Takes groups in order.
 fn take_groups(
-    formula: &[Clause],
-    lemmas: &[Lemma],
-    register: &Register,
+    database: &Database,
     marks: &mut Marks,
     lit: Lit,
     hints: &[i64],
 ) -> Result<(), RatStep>
     requires { (parts_of hints.now).lead ≡ [] }
-    ensures answer { Answers result (groups_answer (live_in register.now (clauses_with formula.now lemmas.now)) lit marks.old (parts_of hints.now).groups) }
+    ensures answer { Answers result (groups_answer (live_clause database.now) lit marks.old (parts_of hints.now).groups) }
     ensures same { marks.new ≡ marks.old }
 {
     let mut left = hints;
     while let Some((first, more)) = left.split_first() {
         let own = lead_len(more);
         let id = first.unsigned_abs();
-        match take_group(formula, lemmas, register, marks, lit, id, &more[..own]) {
+        match take_group(database, marks, lit, id, &more[..own]) {
             Ok(()) => {}
             Err(step) => return Err(step),
         }
@@ -152,25 +148,26 @@ fn without_group(hints: &[i64], id: u64) -> RatStep
 
 /// Checks a lemma by its pivot, where the hints before the groups showed nothing.
 fn check_by_pivot(
-    formula: &[Clause],
-    lemmas: &[Lemma],
-    register: &Register,
+    database: &Database,
+    occurrences: &Occurrences,
     marks: &mut Marks,
     lits: &[Lit],
     hints: &[i64],
 ) -> Result<(), RatStep>
-    requires { (parts_of hints.now).lead ≡ [] }
-    ensures { Answers result (answer_by_pivot (live_in register.now (clauses_with formula.now lemmas.now)) (all_ids register.now) lits.now (parts_of hints.now).groups marks.old) }
+    requires rises { Rises (all_ids (entries_of database.now)) }
+    requires listed { AreListed database.now occurrences.now }
+    requires begins { (parts_of hints.now).lead ≡ [] }
+    ensures { Answers result (answer_by_pivot (live_clause database.now) (all_ids (entries_of database.now)) lits.now (parts_of hints.now).groups marks.old) }
 {
     let Some((pivot, _)) = lits.split_first() else {
         return Err(without_pivot(hints));
     };
     let lit = pivot.complement();
-    match take_groups(formula, lemmas, register, marks, lit, hints) {
+    match take_groups(database, marks, lit, hints) {
         Ok(()) => {}
         Err(step) => return Err(step),
     }
-    match first_uncovered(formula, lemmas, register, lit, hints) {
+    match first_uncovered(database, occurrences, lit, hints) {
         None => Ok(()),
         Some(id) => Err(without_group(hints, id)),
     }
@@ -178,15 +175,16 @@ fn check_by_pivot(
 
 /// Checks a lemma, and leaves assumptions behind.
 pub fn check(
-    formula: &[Clause],
-    lemmas: &[Lemma],
-    register: &Register,
+    database: &Database,
+    occurrences: &Occurrences,
     marks: &mut Marks,
     lits: &[Lit],
     hints: &[i64],
 ) -> Result<(), RatStep>
-    requires { marks.old ≡ [] }
-    ensures { Answers result (checked (live_in register.now (clauses_with formula.now lemmas.now)) (all_ids register.now) lits.now hints.now) }
+    requires rises { Rises (all_ids (entries_of database.now)) }
+    requires listed { AreListed database.now occurrences.now }
+    requires marks { marks.old ≡ [] }
+    ensures { Answers result (checked (live_clause database.now) (all_ids (entries_of database.now)) lits.now hints.now) }
 {
     match deny(marks, lits) {
         Ok(()) => {}
@@ -196,10 +194,10 @@ pub fn check(
         return Ok(());
     }
     let lead = lead_len(hints);
-    match walk_hints(formula, lemmas, register, marks, &hints[..lead]) {
+    match walk_hints(database, marks, &hints[..lead]) {
         Err(step) => return Err(told(step)),
         Ok(true) => return Ok(()),
         Ok(false) => {}
     }
-    check_by_pivot(formula, lemmas, register, marks, lits, &hints[lead..])
+    check_by_pivot(database, occurrences, marks, lits, &hints[lead..])
 }

@@ -1,15 +1,18 @@
 //! Which live clauses hold the pivot's complement and have no group.
-ghost use Rattle.std.specs.Prelude.{◌≡◌, ◌==◌, map};
-ghost use Rattle.std.specs.List.{list_any, find};
+ghost use Rattle.std.specs.Prelude.{◌≡◌, cond};
+ghost use Rattle.std.specs.List.{find};
 ghost use Rattle.knox_cnf.specs.Literals.{has, same_literal};
-ghost use Rattle.lrat_check.specs.Register.{all_ids, numbers_from};
-ghost use Rattle.lrat_check.specs.Derivations.{clauses_with, live_in};
+ghost use Rattle.lrat_check.specs.Register.{all_ids, Rises};
+ghost use Rattle.lrat_check.specs.Derivations.{entries_of, live_clause};
 ghost use Rattle.rat_check.specs.Groups.{parts_of};
 ghost use Rattle.rat_check.specs.Rat.{is_uncovered as is_left};
+ghost use Rattle.rat_check.specs.Covering.{lesser as lesser_of, least_where};
+ghost use Rattle.rat_check.specs.Occurrences.{AreListed};
 
-use crate::grouping::is_grouped;
-use knox_cnf::{Clause, Lit};
-use lrat_check::{Lemma, Register, live_clause};
+use crate::grouping::{behind_group, is_grouped};
+use crate::occurrences::Occurrences;
+use knox_cnf::Lit;
+use lrat_check::Database;
 
 fn is_same(one: Lit, other: Lit) -> bool
     ensures { result ≡ same_literal one other }
@@ -25,72 +28,67 @@ pub fn holds(lits: &[Lit], lit: Lit) -> bool
 }
 
 /// Whether the clause with this id is live, holds the literal and has no group.
-fn is_uncovered(
-    formula: &[Clause],
-    lemmas: &[Lemma],
-    register: &Register,
-    lit: Lit,
-    hints: &[i64],
-    id: u64,
-) -> bool
-    ensures { result ≡ is_left (live_in register.now (clauses_with formula.now lemmas.now)) lit (parts_of hints.now).groups id }
+fn is_uncovered(database: &Database, lit: Lit, hints: &[i64], id: u64) -> bool
+    ensures { result ≡ is_left (live_clause database.now) lit (parts_of hints.now).groups id }
 {
-    match live_clause(formula, lemmas, register, id) {
+    match database.live_clause(id) {
         None => false,
         Some(clause) => holds(clause.lits(), lit) && !is_grouped(hints, id),
     }
 }
 
-/// The first clause of the formula that is uncovered.
-fn first_of_formula(
-    formula: &[Clause],
-    lemmas: &[Lemma],
-    register: &Register,
-    lit: Lit,
-    hints: &[i64],
-) -> Option<u64>
-    ensures { result ≡ find (is_left (live_in register.now (clauses_with formula.now lemmas.now)) lit (parts_of hints.now).groups) (numbers_from 1 register.now.formula) }
+fn lesser(least: Option<u64>, id: u64) -> u64
+    ensures { result ≡ lesser_of least id }
 {
-    let count = register.formula();
-    for at in 0..count {
-        let id = at as u64 + 1;
-        if is_uncovered(formula, lemmas, register, lit, hints, id) {
-            return Some(id);
-        }
+    match least {
+        Some(other) if other < id => other,
+        _ => id,
     }
-    None
 }
 
-/// The first lemma that is uncovered.
-fn first_of_lemmas(
-    formula: &[Clause],
-    lemmas: &[Lemma],
-    register: &Register,
-    lit: Lit,
-    hints: &[i64],
-) -> Option<u64>
-    ensures { result ≡ find (is_left (live_in register.now (clauses_with formula.now lemmas.now)) lit (parts_of hints.now).groups) register.now.ids }
+/// The least of an id that was found before and of this one, if it is uncovered.
+fn with_id(database: &Database, lit: Lit, hints: &[i64], found: Option<u64>, id: u64) -> Option<u64>
+    ensures { result ≡ cond (is_left (live_clause database.now) lit (parts_of hints.now).groups id) (Some (lesser_of found id)) found }
 {
-    for id in register.ids() {
-        if is_uncovered(formula, lemmas, register, lit, hints, *id) {
-            return Some(*id);
-        }
+    if is_uncovered(database, lit, hints, id) {
+        Some(lesser(found, id))
+    } else {
+        found
     }
-    None
 }
 
-/// The first clause that is live, holds the literal and has no group.
+/// .. and of these. Groups that stand in the order of the ids are passed one after another.
+fn least_uncovered(
+    database: &Database,
+    lit: Lit,
+    hints: &[i64],
+    found: Option<u64>,
+    ids: &[u64],
+) -> Option<u64>
+    ensures { result ≡ least_where (is_left (live_clause database.now) lit (parts_of hints.now).groups) found ids.now }
+{
+    let mut least = found;
+    let mut left = hints;
+    for id in ids {
+        match behind_group(left, *id) {
+            Some(rest) => left = rest,
+            None => least = with_id(database, lit, hints, least, *id),
+        }
+    }
+    least
+}
+
+/// The smallest id of a clause that is live, holds the literal and has no group.
 pub fn first_uncovered(
-    formula: &[Clause],
-    lemmas: &[Lemma],
-    register: &Register,
+    database: &Database,
+    occurrences: &Occurrences,
     lit: Lit,
     hints: &[i64],
 ) -> Option<u64>
-    ensures { result ≡ find (is_left (live_in register.now (clauses_with formula.now lemmas.now)) lit (parts_of hints.now).groups) (all_ids register.now) }
+    requires rises { Rises (all_ids (entries_of database.now)) }
+    requires listed { AreListed database.now occurrences.now }
+    ensures { result ≡ find (is_left (live_clause database.now) lit (parts_of hints.now).groups) (all_ids (entries_of database.now)) }
 {
-    match first_of_formula(formula, lemmas, register, lit, hints) {
-        Some(id) => Some(id),
-        None => first_of_lemmas(formula, lemmas, register, lit, hints),
-    }
+    let found = least_uncovered(database, lit, hints, None, occurrences.near(lit));
+    least_uncovered(database, lit, hints, found, occurrences.far())
 }

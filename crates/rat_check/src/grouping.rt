@@ -1,8 +1,8 @@
 //! Groups of hints.
-ghost use Rattle.std.specs.Prelude.{◌≡◌, ◌≤◌, ◌==◌, [], take, drop, length, ◌&&◌, unsigned_abs};
+ghost use Rattle.std.specs.Prelude.{◌≡◌, ◌≤◌, ◌==◌, [], take, drop, length, ◌&&◌, IfSome, unsigned_abs};
 ghost use Rattle.lrat_check.specs.Hints.{is_negative};
 ghost use Rattle.std.specs.List.{list_any};
-ghost use Rattle.rat_check.specs.Groups.{parts_of, has_group};
+ghost use Rattle.rat_check.specs.Groups.{parts_of, has_group, PassesGroup};
 
 /// How many hints stand before the first negative one.
 pub fn lead_len(hints: &[i64]) -> usize
@@ -37,4 +37,14 @@ pub fn is_grouped(hints: &[i64], id: u64) -> bool
     ensures { result ≡ has_group (parts_of hints.now).groups id }
 {
     any_begins(hints, id)
+}
+
+/// What stands behind the group that these hints begin with, if that is about the clause with this id.
+pub fn behind_group(hints: &[i64], id: u64) -> Option<&[i64]>
+    ensures { IfSome result (λ rest. PassesGroup hints.now id rest.now) }
+{
+    match hints.split_first() {
+        Some((first, more)) if begins_group(first, id) => Some(&more[lead_len(more)..]),
+        _ => None,
+    }
 }

@@ -6,6 +6,7 @@
 mod checking;
 mod covering;
 mod grouping;
+mod occurrences;
 mod rat_step;
 mod refutation;
 

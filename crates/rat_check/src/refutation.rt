@@ -1,5 +1,5 @@
 //! Refutations.
-ghost use Rattle.std.specs.Prelude.{◌≡◌, ◌||◌, ◌∷◌, ◌++◌, [], true, IsTrue, IfOk, IfErr, OnOk, OnErr, Ok};
+ghost use Rattle.std.specs.Prelude.{◌≡◌, [], true, IsTrue, IfOk, IfErr, OnOk, OnErr, Ok};
 ghost use Rattle.lrat_check.specs.Register.{is_new as is_new_id, all_ids};
 ghost use Rattle.lrat_check.specs.Derivations.{start_of, entries_of, live_clause, lemma as made_lemma, with_lemma, is_closed};
 ghost use Rattle.lrat_check.specs.Soundness.{IsUnsatisfiable};
@@ -8,10 +8,10 @@ ghost use Rattle.rat_check.specs.Refutations.{answer, live_without, IsShown};
 ghost use Rattle.rat_check.specs.Soundness.{StaysSatisfiable};
 
 use crate::checking::check;
+use crate::occurrences::Occurrences;
 use crate::rat_step::RatStep;
-use knox_cnf::{Clause, Cnf, Lit};
-use lrat_check::{Lemma, Marks, Register, closed_with, has_empty, places_for};
-use sqlite_items::Items;
+use knox_cnf::{Cnf, Lit};
+use lrat_check::{Database, Marks, places_for};
 use std::alloc::{AllocError, Global};
 use std::marker::Model;
 
@@ -20,36 +20,31 @@ use std::marker::Model;
 /// A deleted clause stays where it is, and isn't live any more.
 #[derive(Debug)]
 pub struct Refutation {
-    alloc: Global,
-    cnf: Cnf,
-    lemmas: Items<Lemma>,
-    register: Register,
+    database: Database,
+    occurrences: Occurrences,
     marks: Marks,
-    closed: bool,
 }
 
 impl Drop for Refutation {
     fn drop(self) {
         let Refutation {
-            alloc: _alloc,
-            cnf: _cnf,
-            lemmas: _lemmas,
-            register: _register,
+            database: _database,
+            occurrences: _occurrences,
             marks: _marks,
-            closed: _closed,
         } = self;
     }
 }
 
 impl Model for Refutation {
+    ghost use Rattle.std.specs.Prelude.{◌≡◌, []};
     ghost use Rattle.lrat_check.specs.Derivations.{Proof};
-    ghost use Rattle.rat_check.specs.Kept.{refutation_of, Kept};
+    ghost use Rattle.rat_check.specs.Kept.{Kept};
 
     ghost Value = { Proof };
 
-    ghost view = { refutation_of };
+    ghost view = { λ r. r.database };
 
-    ghost invariant = { Kept };
+    ghost invariant = { λ r. Kept r.database r.occurrences × (r.marks ≡ []) };
 }
 
 impl Refutation {
@@ -58,15 +53,12 @@ impl Refutation {
         ensures { IfOk result (λ r. r ≡ start_of cnf) }
     {
         let marks = Marks::new(alloc, places_for(cnf.vars))?;
-        let register = Register::new(alloc, cnf.clauses.len())?;
-        let closed = has_empty(cnf.clauses.as_slice());
+        let occurrences = Occurrences::new(alloc, &cnf)?;
+        let database = Database::new(alloc, cnf)?;
         Ok(Refutation {
-            alloc,
-            cnf,
-            lemmas: Items::new(alloc),
-            register,
+            database,
+            occurrences,
             marks,
-            closed,
         })
     }
 
@@ -78,7 +70,7 @@ impl Refutation {
         // No assignment makes the formula true where the refutation is closed.
         ensures unsatisfiable { IsTrue result → IsUnsatisfiable self.now }
     {
-        self.closed
+        self.database.closed()
     }
 
     /// Admits a lemma whose hints show that it keeps the live clauses satisfiable.
@@ -87,7 +79,7 @@ impl Refutation {
         ensures ok { OnOk result (self.new ≡ with_lemma self.old (made_lemma id lemma.now [])) }
         ensures err { OnErr result (self.new ≡ self.old) }
     {
-        if !self.register.is_new(id) {
+        if !self.database.is_new(id) {
             return Err(RatStep::IdNotNew(id));
         }
         match self.check(lemma, hints) {
@@ -106,9 +98,8 @@ impl Refutation {
         ensures same { self.new ≡ self.old }
     {
         let answer = check(
-            self.cnf.clauses.as_slice(),
-            self.lemmas.as_slice(),
-            &self.register,
+            &self.database,
+            &self.occurrences,
             &mut self.marks,
             lemma,
             hints,
@@ -124,18 +115,8 @@ impl Refutation {
         ensures ok { OnOk result (self.new ≡ with_lemma self.old (made_lemma id lemma.now [])) }
         ensures err { OnErr result (self.new ≡ self.old) }
     {
-        let made = make_lemma(self.alloc, id, lemma)?;
-        self.lemmas.push(made)?;
-        match self.register.push(id) {
-            Err(refused) => {
-                self.lemmas.pop();
-                Err(refused)
-            }
-            Ok(()) => {
-                self.closed = closed_with(self.closed, lemma);
-                Ok(())
-            }
-        }
+        self.occurrences.add(id, lemma)?;
+        self.database.push(id, lemma, &[])
     }
 
     /// Deletes clauses: none of them is live from then on. Refused at the first id that isn't live,
@@ -146,21 +127,9 @@ impl Refutation {
         ensures refused { IfErr result (λ step. live_without self.old ids.now ≡ Err step) }
         ensures err { OnErr result (self.new ≡ self.old) }
     {
-        match self.register.delete(ids) {
+        match self.database.delete(ids) {
             Ok(()) => Ok(()),
             Err(id) => Err(RatStep::NoSuchClause(id)),
         }
     }
-}
-
-/// A lemma without its hints.
-fn make_lemma(alloc: Global, id: u64, lemma: &[Lit]) -> Result<Lemma, AllocError>
-    ensures { IfOk result (λ m. m ≡ made_lemma id lemma.now []) }
-{
-    let lits = Clause::from_lits(alloc, lemma)?;
-    Ok(Lemma {
-        id,
-        lits,
-        hints: Items::new(alloc),
-    })
 }

@@ -4,7 +4,7 @@ use Rattle.knox_cnf.specs.Literals.{complement}
 use Rattle.lrat_check.specs.Register.{all_ids}
 use Rattle.lrat_check.specs.Marks.{all_with_true}
 use Rattle.lrat_check.specs.Hints.{after_hints, Takes}
-use Rattle.lrat_check.specs.Derivations.{clauses_with, live_in}
+use Rattle.lrat_check.specs.Derivations.{entries_of, live_clause}
 use Rattle.rat_check.specs.Groups.{parts_of}
 use Rattle.rat_check.specs.Rat.{told, check, Answers}
 use Rattle.rat_check.proofs.RatLemmas.{check-tautology, check-lead, walk-Err, walk-false}
@@ -12,15 +12,15 @@ use Rattle.rat_check.proofs.checking.check.Goals as goal
 
 pub returns-then-is_contradictory : goal.returns-then-is_contradictory
 returns-then-is_contradictory c =
-    let clause = live_in c.args.register.now (clauses_with c.args.formula.now c.args.lemmas.now) in
-    let false_now : c.deny.new.marks ≡ all_with_true [] (map complement c.args.lits.now) = c.in-Ok.ensures.ok ∙ ap (λ t. all_with_true t (map complement c.args.lits.now)) c.requires in
-    check-tautology clause (all_ids c.args.register.now) c.args.lits.now c.deny.new.marks c.args.hints.now false_now (sym c.if-is_contradictory.ensures)
+    let clause = live_clause c.args.database.now in
+    let false_now : c.deny.new.marks ≡ all_with_true [] (map complement c.args.lits.now) = c.in-Ok.ensures.ok ∙ ap (λ t. all_with_true t (map complement c.args.lits.now)) c.requires.marks in
+    check-tautology clause (all_ids (entries_of c.args.database.now)) c.args.lits.now c.deny.new.marks c.args.hints.now false_now (sym c.if-is_contradictory.ensures)
 
 pub returns-in-Err-walk_hints : goal.returns-in-Err-walk_hints
 returns-in-Err-walk_hints c =
-    let clause = live_in c.args.register.now (clauses_with c.args.formula.now c.args.lemmas.now) in
-    let ids = all_ids c.args.register.now in
-    let false_now : c.deny.new.marks ≡ all_with_true [] (map complement c.args.lits.now) = c.in-Ok.ensures.ok ∙ ap (λ t. all_with_true t (map complement c.args.lits.now)) c.requires in
+    let clause = live_clause c.args.database.now in
+    let ids = all_ids (entries_of c.args.database.now) in
+    let false_now : c.deny.new.marks ≡ all_with_true [] (map complement c.args.lits.now) = c.in-Ok.ensures.ok ∙ ap (λ t. all_with_true t (map complement c.args.lits.now)) c.requires.marks in
     let lead = take c.lead_len-lead.result c.args.hints.now in
     let rest = drop c.lead_len-lead.result c.args.hints.now in
     subst (λ s. Answers (Err s) (check clause ids c.args.lits.now c.args.hints.now)) (sym c.told-in-Err-walk_hints.ensures)
@@ -29,9 +29,9 @@ returns-in-Err-walk_hints c =
 
 pub returns : goal.returns
 returns c =
-    let clause = live_in c.args.register.now (clauses_with c.args.formula.now c.args.lemmas.now) in
-    let ids = all_ids c.args.register.now in
-    let false_now : c.deny.new.marks ≡ all_with_true [] (map complement c.args.lits.now) = c.in-Ok.ensures.ok ∙ ap (λ t. all_with_true t (map complement c.args.lits.now)) c.requires in
+    let clause = live_clause c.args.database.now in
+    let ids = all_ids (entries_of c.args.database.now) in
+    let false_now : c.deny.new.marks ≡ all_with_true [] (map complement c.args.lits.now) = c.in-Ok.ensures.ok ∙ ap (λ t. all_with_true t (map complement c.args.lits.now)) c.requires.marks in
     let lead = take c.lead_len-lead.result c.args.hints.now in
     let rest = take (length c.args.hints.now - c.lead_len-lead.result) (drop c.lead_len-lead.result c.args.hints.now) in
     let all_rest : rest ≡ drop c.lead_len-lead.result c.args.hints.now = take_rest c.args.hints.now c.lead_len-lead.result in

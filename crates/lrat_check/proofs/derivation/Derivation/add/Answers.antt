@@ -1,17 +1,8 @@
-use Rattle.std.proofs.Common.{◌≡◌, ap, Ok}
-use Rattle.lrat_check.specs.declared.lemma.Lemma.{Lemma}
-use Rattle.lrat_check.specs.Hints.{check}
-use Rattle.lrat_check.specs.Derivations.{lemma, proof, live_clause}
-use Rattle.lrat_check.proofs.KeptLemmas.{add-lrup, add-register, add-closed}
+use Rattle.lrat_check.proofs.KeptLemmas.{pushed-lrup}
 use Rattle.lrat_check.proofs.derivation.Derivation.add.Goals as goal
 
-pub invariant_of-self-in-Ok : goal.invariant_of-self-in-Ok
-invariant_of-self-in-Ok c =
-    let made : c.in_ok-made.made ≡ lemma c.args.id c.args.lemma.now c.args.hints.now = c.in_ok-made.ensures in
-    let shown : check (live_clause (proof c.self.inside.cnf c.self.inside.lemmas c.self.inside.register.live)) c.args.lemma.now c.args.hints.now ≡ Ok tt = rw c.self.view_is c.requires.shown in
-    record {
-      lrup = add-lrup c.self.inside.cnf c.self.inside.lemmas c.push.new.self c.self.inside.register.live c.args.id c.args.lemma.now c.args.hints.now c.in_ok-made.made c.self.invariant.lrup shown made c.in_ok-push.ensures.ok;
-      register = add-register c.self.inside.cnf.clauses c.self.inside.lemmas c.push.new.self c.self.inside.register c.push-2.new.self c.args.id c.in_ok-made.made c.self.invariant.register (ap (λ (m : Lemma). m.id) made) c.in_ok-push.ensures.ok c.in-Ok.ensures.ok;
-      marks = c.self.invariant.marks;
-      closed = add-closed c.self.inside.cnf.clauses c.self.inside.lemmas c.push.new.self c.in_ok-made.made c.args.lemma.now c.self.inside.closed c.closed_with-self-inside.result c.self.invariant.closed c.closed_with-self-inside.ensures (ap (λ (m : Lemma). m.lits) made) c.in_ok-push.ensures.ok;
-    }
+pub invariant_of-self : goal.invariant_of-self
+invariant_of-self c = (
+  pushed-lrup c.self.inside.database c.push.new.self c.args.id c.args.lemma.now c.args.hints.now c.push.result (rw c.self.view_is c.requires.shown) c.push.ensures.ok c.push.ensures.err c.self.invariant.0,
+  c.self.invariant.1,
+)

@@ -1,8 +1,7 @@
 use Rattle.std.proofs.Common.{◌∙◌, sym}
-use Rattle.lrat_check.specs.Kept.{proof_of}
 use Rattle.lrat_check.proofs.Sound.{closed-unsatisfiable}
 use Rattle.lrat_check.proofs.derivation.Derivation.closed.Goals as goal
 
 pub returns-clause-unsatisfiable : goal.returns-clause-unsatisfiable
 returns-clause-unsatisfiable c =
-    rw (← c.self.view_is) (λ h. closed-unsatisfiable (proof_of c.self.inside) c.self.invariant.lrup (sym c.self.invariant.closed ∙ h))
+    rw (← c.self.view_is) (λ h. closed-unsatisfiable c.self.inside.database c.self.invariant.0 (sym c.closed.ensures ∙ h))
