@@ -1,9 +1,9 @@
--- What checking a proof of a formula comes to. The lines of the proof are taken in order, each against the derivation that the lines before it
--- have led to. Standard: LRAT without RAT lines, by the definitions of `lrat_check`; DIMACS, by those of `knox_cnf`.
+-- What checking a proof of a formula comes to. The lines of the proof are taken in order, each against the refutation that the lines before it
+-- have led to. Standard: LRAT, by the definitions of `rat_check`; DIMACS, by those of `knox_cnf`.
 use Rattle.std.specs.Prelude.{◌≡◌, ℕ, Bool, true, if◌then◌else◌, List, [], ◌∷◌, Option, Some, None, Result, Ok, Err}
 use Rattle.std.specs.Result.{result_map_both}
 use Rattle.proof_text.specs.declared.fault.ProofFault.TheVariants as fault
-use Rattle.knox.specs.Words.{Bytes, Cnf, clauses_true, cnf_of, ProofLine, Add, Delete, ProofFault, lrat_of, Proof, proof, lemma, start_of, answer, with_lemma, live_without, is_closed, Step}
+use Rattle.knox.specs.Words.{Bytes, Cnf, clauses_true, cnf_of, ProofLine, Add, Delete, ProofFault, lrat_of, Proof, proof, lemma, start_of, answer, with_lemma, live_without, is_closed, RatStep}
 use Rattle.knox.specs.Words.{CheckEnd, Verified, Rejected, NoEmptyClause, Letter, F, P, Outcome, Text, Checked, Memory, OfProof}
 
 -- ---- lines
@@ -13,23 +13,23 @@ abbrev pub line_number : ProofLine → ℕ
 line_number (Add n id lits hints) = n
 line_number (Delete n ids) = n
 
--- the derivation after a line that is accepted, or why it is refused
-abbrev pub with_line : Proof → ProofLine → Result Proof Step
-with_line d (Add n id lits hints) = result_map_both (λ x. with_lemma d (lemma id lits hints)) (λ why. why) (answer d id lits hints)
+-- the refutation after a line that is accepted, or why it is refused
+abbrev pub with_line : Proof → ProofLine → Result Proof RatStep
+with_line d (Add n id lits hints) = result_map_both (λ x. with_lemma d (lemma id lits [])) (λ why. why) (answer d id lits hints)
 with_line d (Delete n ids) = result_map_both (λ live. proof d.cnf d.lemmas live) (λ why. why) (live_without d ids)
 
 -- the end that comes behind a line that is accepted; one that is refused is the end
-abbrev pub end_behind : ProofLine → (Proof → CheckEnd) → Result Proof Step → CheckEnd
+abbrev pub end_behind : ProofLine → (Proof → CheckEnd) → Result Proof RatStep → CheckEnd
 end_behind l end (Ok d) = end d
 end_behind l end (Err why) = Rejected (line_number l) why
 
--- how the check of some lines ends, from a derivation on
+-- how the check of some lines ends, from a refutation on
 abbrev pub end_of : List ProofLine → Proof → CheckEnd
 end_of [] d = if is_closed d then Verified else NoEmptyClause
 end_of (l ∷ ls) d = end_behind l (end_of ls) (with_line d l)
 
 -- the same, where a line before them may have been refused
-abbrev pub end_with : Option (ℕ × Step) → List ProofLine → Proof → CheckEnd
+abbrev pub end_with : Option (ℕ × RatStep) → List ProofLine → Proof → CheckEnd
 end_with None ls d = end_of ls d
 end_with (Some refused) ls d = Rejected refused.0 refused.1
 

@@ -3,7 +3,7 @@ use Rattle.std.specs.Prelude.{◌≡◌, ℕ, ◌+◌, [], ◌++◌, Some, None,
 use Rattle.knox_edge.specs.declared.shelf.ShelfEnd.TheVariants.{Failed}
 use Rattle.knox_verify.specs.declared.verdict.VerifyFault.TheVariants as refusal
 use Rattle.knox.specs.declared.status.Status.TheVariants as status
-use Rattle.knox.specs.Words.{Bytes, limit, Rose, Agree, HintNo, Choices, Step, Letter, TextWhy, VerifyFault, Verdict, Yes, Undecided, TooWide, Parts, device, AllHold, FiveTexts, Means, FirstFault}
+use Rattle.knox.specs.Words.{Bytes, limit, Rose, Agree, HintNo, Choices, RatStep, Letter, TextWhy, VerifyFault, Verdict, Yes, Undecided, TooWide, Parts, device, AllHold, FiveTexts, Means, FirstFault}
 use Rattle.knox.specs.Words.{Command, Status, CheckEnd, Verified, Rejected, NoEmptyClause, Outcome, Text, Judged, Checked, TextFault, OfDevice}
 use Rattle.knox.specs.Commands.{command_of}
 use Rattle.knox.specs.Checking.{ChecksTexts}
@@ -63,7 +63,7 @@ Faulty s letter why =
 abbrev pub Explains : Seen → Status → Type 0
 Explains s status.Yes = JudgedAs s Yes
 Explains s status.Done = CheckedAs s Verified
-Explains s status.No = ((number : ℕ) × (why : Step) × CheckedAs s (Rejected number why)) ⊎ CheckedAs s NoEmptyClause
+Explains s status.No = ((number : ℕ) × (why : RatStep) × CheckedAs s (Rejected number why)) ⊎ CheckedAs s NoEmptyClause
 Explains s status.Undecided = (hint : HintNo) × (choices : Choices) × JudgedAs s (Undecided hint choices)
 Explains s status.TooWide = (hint : HintNo) × (bits : ℕ) × JudgedAs s (TooWide hint bits)
 Explains s status.Usage = (command_of s.words ≡ None) × (s.after ≡ s.before) × Wrote s [] usage_line

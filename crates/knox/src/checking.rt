@@ -1,7 +1,7 @@
 //! Checks the proof of a formula: each line is admitted as soon as it is read, so that no more than
 //! one of them is held.
 ghost use Rattle.std.specs.Prelude.{◌≡◌, ◌≤◌, ◌⊎◌, ◌∷◌, length, List, Ok, Err, OnOk, IfOk, IfErr};
-ghost use Rattle.lrat_check.specs.declared.step.Step.TheVariants.{Memory};
+ghost use Rattle.rat_check.specs.declared.rat_step.RatStep.TheVariants.{Memory};
 ghost use Rattle.proof_text.specs.declared.fault.ProofFault.TheVariants as fault;
 ghost use Rattle.proof_text.specs.Results.{and_then, Answers};
 ghost use Rattle.knox.specs.Words.{ProofLine, lines_left};
@@ -9,8 +9,8 @@ ghost use Rattle.knox.specs.Checking.{line_number, with_line, end_of, end_with, 
 
 use crate::outcome::{Outcome, TextFault};
 use knox_verify::Letter;
-use lrat_check::{Derivation, Step};
 use proof_text::{LratReader, ProofFault, ProofLine, read_cnf};
+use rat_check::{RatStep, Refutation};
 use std::alloc::Global;
 
 /// How the check of a proof ends.
@@ -19,7 +19,7 @@ pub enum CheckEnd {
     /// Every line is accepted, and the formula or a lemma is the empty clause.
     Verified,
     /// The line with this number is the first that is refused.
-    Rejected(u32, Step),
+    Rejected(u32, RatStep),
     /// Every line is accepted, and there is no empty clause.
     NoEmptyClause,
 }
@@ -35,35 +35,35 @@ fn number_of(line: &ProofLine) -> u32
 }
 
 /// Adds the lemma or deletes the clauses of a line, or tells why it is refused.
-fn take_line(derivation: &mut Derivation, line: &ProofLine) -> Result<(), Step>
-    ensures ok { OnOk result (with_line derivation.old line.now ≡ Ok derivation.new) }
-    ensures refused { IfErr result (λ why. (why ≡ Memory) ⊎ (with_line derivation.old line.now ≡ Err why)) }
-    ensures formula { derivation.new.cnf ≡ derivation.old.cnf }
+fn take_line(refutation: &mut Refutation, line: &ProofLine) -> Result<(), RatStep>
+    ensures ok { OnOk result (with_line refutation.old line.now ≡ Ok refutation.new) }
+    ensures refused { IfErr result (λ why. (why ≡ Memory) ⊎ (with_line refutation.old line.now ≡ Err why)) }
+    ensures formula { refutation.new.cnf ≡ refutation.old.cnf }
 {
     match line {
         ProofLine::Add(_, id, lits, hints) => {
-            derivation.admit(*id, lits.as_slice(), hints.as_slice())
+            refutation.admit(*id, lits.as_slice(), hints.as_slice())
         }
-        ProofLine::Delete(_, ids) => derivation.delete(ids.as_slice()),
+        ProofLine::Delete(_, ids) => refutation.delete(ids.as_slice()),
     }
 }
 
 /// Takes a line, unless one before it was refused, and tells the first that is.
 fn go_on(
-    derivation: &mut Derivation,
-    refused: Option<(u32, Step)>,
+    refutation: &mut Refutation,
+    refused: Option<(u32, RatStep)>,
     line: &ProofLine,
-) -> Result<Option<(u32, Step)>, ProofFault>
-    ensures ok { IfOk result (λ now. (ls : List ProofLine) → end_with refused (line.now ∷ ls) derivation.old ≡ end_with now ls derivation.new) }
+) -> Result<Option<(u32, RatStep)>, ProofFault>
+    ensures ok { IfOk result (λ now. (ls : List ProofLine) → end_with refused (line.now ∷ ls) refutation.old ≡ end_with now ls refutation.new) }
     ensures memory { IfErr result (λ f. f ≡ fault.Memory) }
-    ensures formula { derivation.new.cnf ≡ derivation.old.cnf }
+    ensures formula { refutation.new.cnf ≡ refutation.old.cnf }
 {
     if refused.is_some() {
         return Ok(refused);
     }
-    match take_line(derivation, line) {
+    match take_line(refutation, line) {
         Ok(()) => Ok(None),
-        Err(Step::Memory) => Err(ProofFault::Memory),
+        Err(RatStep::Memory) => Err(ProofFault::Memory),
         Err(why) => Ok(Some((number_of(line), why))),
     }
 }
@@ -72,21 +72,21 @@ fn go_on(
 /// read, since a fault there comes first.
 fn check_lines(
     alloc: Global,
-    derivation: Derivation,
+    refutation: Refutation,
     reader: LratReader<'_>,
 ) -> Result<CheckEnd, ProofFault>
-    ensures ends { Answers result (and_then (lines_left reader.entry) (λ ls. Ok (end_of ls derivation))) }
-    ensures shows { IfOk result (λ end. Shows end derivation.cnf) }
+    ensures ends { Answers result (and_then (lines_left reader.entry) (λ ls. Ok (end_of ls refutation))) }
+    ensures shows { IfOk result (λ end. Shows end refutation.cnf) }
 {
-    let mut derivation = derivation;
+    let mut refutation = refutation;
     let mut reader = reader;
     let mut refused = None;
     while let Some(line) = reader.next_line(alloc)? {
-        refused = go_on(&mut derivation, refused, &line)?;
+        refused = go_on(&mut refutation, refused, &line)?;
     }
     match refused {
         Some((number, why)) => Ok(CheckEnd::Rejected(number, why)),
-        None if derivation.closed() => Ok(CheckEnd::Verified),
+        None if refutation.closed() => Ok(CheckEnd::Verified),
         None => Ok(CheckEnd::NoEmptyClause),
     }
 }
@@ -111,10 +111,10 @@ pub fn check_texts(alloc: Global, formula: &[u8], proof: &[u8]) -> Outcome
         Ok(cnf) => cnf,
         Err(fault) => return cause(Letter::F, fault),
     };
-    let Ok(derivation) = Derivation::new(alloc, cnf) else {
+    let Ok(refutation) = Refutation::new(alloc, cnf) else {
         return Outcome::Memory;
     };
-    match check_lines(alloc, derivation, LratReader::new(proof)) {
+    match check_lines(alloc, refutation, LratReader::new(proof)) {
         Ok(end) => Outcome::Checked(end),
         Err(fault) => cause(Letter::P, fault),
     }
