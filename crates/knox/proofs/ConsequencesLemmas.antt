@@ -1,137 +1,129 @@
 -- What each status says follows from how a run ends.
-use Rattle.std.proofs.Common.{◌≡◌, ◌∙◌, ◌<◌, ◌+◌, ℕ, List, [], ◌∷◌, ◌++◌, length, take, get_or, ap, sym, subst, inl, inr, ◌⊎◌, append_assoc, append-nil, Option, Some, None, Result, Ok, Err, refl}
-use Rattle.std.proofs.lemmas.List.{take_more}
-use Rattle.std.proofs.Math.Seq.{take-length}
-use Rattle.knox_edge.specs.declared.shelf.ShelfEnd.{ShelfEnd}
+use Rattle.std.proofs.Common.{◌≡◌, ◌∙◌, ◌<◌, ◌+◌, ℕ, List, [], ◌∷◌, ◌++◌, length, min, take, drop, get_or, ap, sym, subst, inl, inr, ◌⊎◌, append_assoc, append-nil, Option, Some, None, Result, Ok, Err, refl, arith}
+use Rattle.std.proofs.lemmas.List.{take_more, length-append, length-map, length-take}
+use Rattle.std.proofs.Math.Seq.{take-length, drop-append_seam}
 use Rattle.knox_edge.specs.declared.shelf.ShelfEnd.TheVariants as end
-use Rattle.knox_edge.specs.Counts.{Rose}
-use Rattle.knox_edge.specs.Texts.{Bytes, Reads}
-use Rattle.knox_verify.specs.declared.verdict.TextWhy.TheVariants.{TooLong}
-use Rattle.knox_verify.specs.declared.verdict.Verdict.{Verdict}
-use Rattle.knox_verify.specs.declared.verdict.Verdict.TheVariants.{Yes, Undecided, TooWide}
-use Rattle.knox_verify.specs.declared.verdict.VerifyFault.{VerifyFault}
 use Rattle.knox_verify.specs.declared.verdict.VerifyFault.TheVariants as refusal
-use Rattle.knox_verify.specs.Judgements.{Parts, AllHold}
-use Rattle.knox_verify.specs.Meanings.{FiveTexts, five, Means}
-use Rattle.knox_verify.specs.Faults.{FirstFault, OrMemory}
-use Rattle.knox.specs.declared.command.Command.{Command}
-use Rattle.knox.specs.declared.command.Command.TheVariants.{Verify, Check}
-use Rattle.knox.specs.declared.status.Status.{Status}
 use Rattle.knox.specs.declared.status.Status.TheVariants as status
-use Rattle.knox.specs.declared.outcome.Outcome.{Outcome}
-use Rattle.knox.specs.declared.outcome.Outcome.TheVariants.{NoCommand, Unbuilt, Unread, Text, Judged, Checked, Memory}
-use Rattle.knox.specs.declared.outcome.TextFault.TheVariants.{OfDevice}
-use Rattle.knox.specs.declared.checking.CheckEnd.TheVariants.{Verified, Rejected, NoEmptyClause}
+use Rattle.knox.specs.Words.{Bytes, Reads, Rose, ShelfEnd, TooLong, Verdict, Yes, Undecided, TooWide, VerifyFault, Parts, AllHold, FiveTexts, five, Means, FirstFault}
+use Rattle.knox.specs.Words.{Command, Verify, Check, Status, CheckEnd, Verified, Rejected, NoEmptyClause, Outcome, NoCommand, Unbuilt, Unread, Text, Judged, Checked, Memory, OfDevice}
 use Rattle.knox.specs.Commands.{command_of}
-use Rattle.knox.specs.Checking.{ChecksTexts}
 use Rattle.knox.specs.Outcomes.{status_of, to_out, to_err}
-use Rattle.knox.specs.Reading.{ReadWhole, ReadUpTo, RefusesRead, OfTexts, texts_of}
-use Rattle.knox.specs.Runs.{Seen, IsVerify, IsCheck, IsOther, Verified as IsVerified, VerifiesTo, OfFive, outcome_of, Because, Ends, names_of}
+use Rattle.knox.specs.Reading.{ReadWhole, ReadUpTo, RefusesRead, texts_of}
+use Rattle.knox.specs.Runs.{Seen, IsVerify, IsCheck, IsOther, IsVerified, outcome_of, Because, Ends, names_of}
 use Rattle.knox.specs.Writing.{StopsBoth}
-use Rattle.knox.specs.Consequences.{Wrote, SaysYes, SaysClosed, SaysOneMeaning, SaysUsage, Explains, AsksPrefix, IsUnhindered, IsVerdict, IsComplete, IsCompleteYes, WhereGiven, TellsFirstFault}
+use Rattle.knox.specs.Consequences.{OfVerified, OfChecked, Wrote, Tells, OrStops, SaysYes, SaysClosed, SaysOneMeaning, SaysUsage, Explains, AsksPrefix, IsUnhindered, GoesThrough, IsComplete, IsCompleteYes, TellsFirstFault}
 
--- ---- the ways to an outcome
+-- ---- what a run comes to
 
-abbrev Built : Option Command → List Bytes → Reads → Reads → Outcome → Type 0
-Built k names b a o =
-    ((c : Command) × (k ≡ Some c) × (IsVerify k ⊎ IsCheck k) × RefusesRead c names b a o)
-    ⊎ ((IsVerify k × OfTexts (VerifiesTo o) names b a) ⊎ (IsCheck k × OfTexts (ChecksTexts o) names b a))
+-- a put failed, which a sink counted, or memory was wanting
+abbrev Stopped : Seen → Type 0
+Stopped s = ((s.status ≡ status.WriteFault) × (Rose s.out_before.faults s.out_after.faults ⊎ Rose s.err_before.faults s.err_after.faults)) ⊎ (s.status ≡ status.Memory)
 
-abbrev Way : Option Command → List Bytes → Reads → Reads → Outcome → Type 0
-Way k names b a o =
-    ((k ≡ None) × (o ≡ NoCommand) × (a ≡ b)) ⊎ ((IsOther k × (o ≡ Unbuilt) × (a ≡ b)) ⊎ Built k names b a o)
+stopped : (s : Seen) (r : Status) (u v : Bytes) → s.status ≡ r → StopsBoth u v r s.out_before s.out_after s.err_before s.err_after → Stopped s
+stopped s status.WriteFault u v is h = inl (is, h.2)
+stopped s status.Memory u v is h = inr is
+stopped s _ u v is h = absurd h
 
-way : (k : Option Command) (names : List Bytes) (b a : Reads) (o : Outcome) → Because k names b a o → Way k names b a o
-way None names b a o h = inl (refl, h.0, h.1)
-way (Some (Verify budget paths)) names b a o (inl r) = inr (inr (inl (Verify budget paths, refl, inl tt, r)))
-way (Some (Verify budget paths)) names b a o (inr t) = inr (inr (inr (inl (tt, t))))
-way (Some Check) names b a o (inl r) = inr (inr (inl (Check, refl, inr tt, r)))
-way (Some Check) names b a o (inr t) = inr (inr (inr (inr (tt, t))))
-way (Some _) names b a o h = inr (inl (tt, h.0, h.1))
+-- the outcome of a run of this command, why it came, and that it was told, if it was
+abbrev Came : Seen → Option Command → Type 0
+Came s k = (o : Outcome) × Because k (names_of s.words) s.before s.after o × (Tells s o ⊎ Stopped s)
+
+came : (s : Seen) (k : Option Command) → command_of s.words ≡ k → Ends s → Came s k
+came s k is ends =
+    elim ends.2 as (λ _. Came s k) [
+      | inl d ↦ (ends.0, subst (λ x. Because x (names_of s.words) s.before s.after ends.0) is ends.1, inl (d.0, (d.1, d.2)))
+      | inr h ↦ (ends.0, subst (λ x. Because x (names_of s.words) s.before s.after ends.0) is ends.1, inr (stopped s s.status _ _ refl h))
+    ]
+
+-- what follows where the outcome was told
+unless : (s : Seen) (o : Outcome) (P : Type 0) → (Tells s o → OrStops s P) → Tells s o ⊎ Stopped s → OrStops s P
+unless s o P f (inl d) = f d
+unless s o P f (inr (inl h)) = inr (inl h.0)
+unless s o P f (inr (inr m)) = inr (inr m)
+
+-- a read was refused
+refusal_of : (c : Command) (names : List Bytes) (b a : Reads) (o : Outcome) → RefusesRead c names b a o → (which : ℕ) × (x : ShelfEnd) × ReadUpTo names which x b a
+refusal_of c names b a (Unread which) r = (which, end.Failed, r)
+refusal_of c names b a (Text letter (OfDevice TooLong)) r = (r.0, end.TooLong, r.2)
+refusal_of c names b a Memory r = (r.0, end.Memory, r.1)
+refusal_of c names b a _ r = absurd r
 
 -- ---- the causes of a status
 
-abbrev Wrote-of : Seen → Outcome → Type 0
-Wrote-of s o = Wrote s (to_out o) (to_err (names_of s.words) o)
-
-as-outcome : (s : Seen) (o x : Outcome) → o ≡ x → (Wrote-of s x → Explains s (status_of x)) → Wrote-of s o → Explains s (status_of o)
-as-outcome s o x is f = subst (λ (z : Outcome). Wrote-of s z → Explains s (status_of z)) (sym is) f
-
-refused-read : (s : Seen) (c : Command) (o : Outcome) → command_of s.words ≡ Some c → IsVerify (command_of s.words) ⊎ IsCheck (command_of s.words) → RefusesRead c (names_of s.words) s.before s.after o → Wrote-of s o → Explains s (status_of o)
-refused-read s c (Unread which) is built r w = (which, built, r, subst (λ n. Rose n s.after.faults) r.whole.faults r.refused.faults, w)
-refused-read s c (Text letter (OfDevice TooLong)) is built r w = (letter, OfDevice TooLong, inl (c, is, r), w)
-refused-read s c Memory is built r w = tt
-refused-read s c _ is built r w = absurd r
+of-texts : (s : Seen) (A B : FiveTexts → Type 0) → ((t : FiveTexts) → A t → B t) → OfVerified s A → OfVerified s B
+of-texts s A B f k = (k.0, (k.1.0, (k.1.1.0, k.1.1.1, f k.1.1.0 k.1.1.2)))
 
 -- a refusal that isn't want of memory
-first-fault : (t : FiveTexts) (f : VerifyFault) → (f ≡ refusal.Memory → ⊥) → OrMemory (FirstFault t) f → FirstFault t f
-first-fault t f other (inl m) = absurd (other m)
-first-fault t f other (inr h) = h
+is-fault : (s : Seen) (f : VerifyFault) → (f ≡ refusal.Memory → ⊥) → OfVerified s (λ t. IsVerified t (Err f)) → OfVerified s (λ t. FirstFault t f)
+is-fault s f other = of-texts s _ _ (λ t k. elim k.refused as (λ _. FirstFault t f) [ inl m ↦ absurd (other m) | inr h ↦ h ])
 
 not-yet-other : refusal.NotYet ≡ refusal.Memory → ⊥
 not-yet-other e = cc
 
-verified : (s : Seen) → IsVerify (command_of s.words) → (w : ReadWhole (names_of s.words) s.before s.after) (t : FiveTexts) → texts_of w.entries ≡ t.c ∷ t.s ∷ t.d ∷ t.e ∷ t.h ∷ [] →
-    (r : Result Verdict VerifyFault) → IsVerified t r → Wrote-of s (outcome_of r) → Explains s (status_of (outcome_of r))
-verified s v w t are (Ok Yes) k o = ((v, (w, (t, are, k))), o)
-verified s v w t are (Ok (Undecided hint choices)) k o = (hint, choices, ((v, (w, (t, are, k))), o))
-verified s v w t are (Ok (TooWide hint bits)) k o = (hint, bits, ((v, (w, (t, are, k))), o))
-verified s v w t are (Err (refusal.Text letter why)) k o =
-    (letter, OfDevice why, inr (inl (v, (w, (t, are, (why, refl, first-fault t (refusal.Text letter why) (λ e. cc) k.refused))))), o)
-verified s v w t are (Err refusal.NotYet) k o = (inr (v, (w, (t, are, first-fault t refusal.NotYet not-yet-other k.refused))), o)
-verified s v w t are (Err refusal.Memory) k o = tt
+abbrev Wrote-of : Seen → Outcome → Type 0
+Wrote-of s o = Wrote s (to_out o) (to_err (names_of s.words) o)
 
-checked : (s : Seen) (o : Outcome) → IsCheck (command_of s.words) → OfTexts (ChecksTexts o) (names_of s.words) s.before s.after → Wrote-of s o → Explains s (status_of o)
-checked s (Checked Verified) v p w = ((v, p), w)
-checked s (Checked (Rejected number why)) v p w = inl (number, why, ((v, p), w))
-checked s (Checked NoEmptyClause) v p w = inr ((v, p), w)
-checked s (Text letter why) v p w = (letter, why, inr (inr (v, p)), w)
-checked s Memory v p w = tt
-checked s NoCommand v p w = absurd p.1.3
-checked s Unbuilt v p w = absurd p.1.3
-checked s (Unread which) v p w = absurd p.1.3
-checked s (Judged verdict) v p w = absurd p.1.3
+of-refusal : (s : Seen) (c : Command) (o : Outcome) → command_of s.words ≡ Some c → IsVerify (command_of s.words) ⊎ IsCheck (command_of s.words) → RefusesRead c (names_of s.words) s.before s.after o → Wrote-of s o → Explains s (status_of o)
+of-refusal s c (Unread which) is built r w = (which, built, r, subst (λ n. Rose n s.after.faults) r.whole.faults r.refused.faults, w)
+of-refusal s c (Text letter (OfDevice TooLong)) is built r w = (letter, OfDevice TooLong, inl (c, is, r), w)
+of-refusal s c Memory is built r w = tt
+of-refusal s c _ is built r w = absurd r
 
-by-way : (s : Seen) (o : Outcome) → Way (command_of s.words) (names_of s.words) s.before s.after o → Wrote-of s o → Explains s (status_of o)
-by-way s o (inl h) w = as-outcome s o NoCommand h.1 (λ u. (h.0, h.2, u)) w
-by-way s o (inr (inl h)) w = as-outcome s o Unbuilt h.1 (λ u. (inl (h.0, h.2), u)) w
-by-way s o (inr (inr (inl h))) w = refused-read s h.0 o h.1 h.2 h.3 w
-by-way s o (inr (inr (inr (inl h)))) w =
-    let five = h.1.1 in
-    as-outcome s o (outcome_of five.2.0) five.2.1 (λ u. verified s h.0 h.1.0 five.0 five.1 five.2.0 five.2.2 u) w
-by-way s o (inr (inr (inr (inr h)))) w = checked s o h.0 h.1 w
+of-verdict : (s : Seen) (r : Result Verdict VerifyFault) → OfVerified s (λ t. IsVerified t r) → Wrote-of s (outcome_of r) → Explains s (status_of (outcome_of r))
+of-verdict s (Ok Yes) k w = (k, w)
+of-verdict s (Ok (Undecided hint choices)) k w = (hint, choices, (k, w))
+of-verdict s (Ok (TooWide hint bits)) k w = (hint, bits, (k, w))
+of-verdict s (Err (refusal.Text letter why)) k w = (letter, OfDevice why, inr (inl (why, refl, is-fault s (refusal.Text letter why) (λ e. cc) k)), w)
+of-verdict s (Err refusal.NotYet) k w = (inr (is-fault s refusal.NotYet not-yet-other k), w)
+of-verdict s (Err refusal.Memory) k w = tt
 
-by-stop : (s : Seen) (r : Status) (u v : Bytes) → StopsBoth u v r s.out_before s.out_after s.err_before s.err_after → Explains s r
-by-stop s status.WriteFault u v h = h.2
-by-stop s status.Memory u v h = tt
-by-stop s _ u v h = absurd h
+of-check : (s : Seen) (o : Outcome) → OfChecked s o → Wrote-of s o → Explains s (status_of o)
+of-check s (Checked Verified) k w = (k, w)
+of-check s (Checked (Rejected number why)) k w = inl (number, why, (k, w))
+of-check s (Checked NoEmptyClause) k w = inr (k, w)
+of-check s (Text letter why) k w = (letter, why, inr (inr k), w)
+of-check s Memory k w = tt
+of-check s _ k w = absurd k.1.1.3
+
+as-outcome : (s : Seen) (o x : Outcome) → o ≡ x → (Wrote-of s x → Explains s (status_of x)) → Wrote-of s o → Explains s (status_of o)
+as-outcome s o x is f = subst (λ (z : Outcome). Wrote-of s z → Explains s (status_of z)) (sym is) f
+
+by-cause : (s : Seen) (k : Option Command) (o : Outcome) → command_of s.words ≡ k → Because k (names_of s.words) s.before s.after o → Wrote-of s o → Explains s (status_of o)
+by-cause s None o is h = as-outcome s o NoCommand h.0 (λ w. (is, h.1, w))
+by-cause s (Some (Verify b p)) o is (inl r) = of-refusal s (Verify b p) o is (inl (b, p, is)) r
+by-cause s (Some (Verify b p)) o is (inr h) =
+    as-outcome s o (outcome_of h.1.2.0) h.1.2.1 (of-verdict s h.1.2.0 ((b, p, is), (h.0, (h.1.0, h.1.1, h.1.2.2))))
+by-cause s (Some Check) o is (inl r) = of-refusal s Check o is (inr is) r
+by-cause s (Some Check) o is (inr h) = of-check s o (is, h)
+by-cause s (Some _) o is h = as-outcome s o Unbuilt h.0 (λ w. (inl (subst IsOther (sym is) tt, h.1), w))
+
+by-stop : (s : Seen) → Stopped s → Explains s s.status
+by-stop s (inl h) = subst (Explains s) (sym h.0) h.1
+by-stop s (inr m) = subst (Explains s) (sym m) tt
 
 -- each status says what it is to say
 pub explained : (s : Seen) → Ends s → Explains s s.status
 explained s ends =
-    elim ends.2 as (λ _. Explains s s.status) [
-      | inl d ↦ subst (Explains s) (sym d.0) (by-way s ends.0 (way (command_of s.words) (names_of s.words) s.before s.after ends.0 ends.1) (d.1, d.2))
-      | inr h ↦ by-stop s s.status _ _ h
+    let c = came s (command_of s.words) refl ends in
+    elim c.2 as (λ _. Explains s s.status) [
+      | inl d ↦ subst (Explains s) (sym d.0) (by-cause s (command_of s.words) c.0 refl c.1 d.1)
+      | inr h ↦ by-stop s h
     ]
 
 -- what a yes says, of the worlds and of the script
 pub says-yes : (s : Seen) → Ends s → SaysYes s
-says-yes s ends is =
-    let h = subst (Explains s) is (explained s ends) in
-    let five = h.0.1.1 in
-    ((h.0.0, (h.0.1.0, (five.0, five.1, five.2.agree refl))), h.1)
+says-yes s ends is = let h = subst (Explains s) is (explained s ends) in (of-texts s _ _ (λ t k. k.agree refl) h.0, h.1)
 
 pub says-closed : (s : Seen) → Ends s → SaysClosed s
-says-closed s ends is =
-    let h = subst (Explains s) is (explained s ends) in
-    let five = h.0.1.1 in
-    (h.0.0, (h.0.1.0, (five.0, five.1, five.2.closed refl)))
+says-closed s ends is = of-texts s _ _ (λ t k. k.closed refl) (subst (Explains s) is (explained s ends)).0
 
 pub says-one-meaning : (s : Seen) → Ends s → SaysOneMeaning s
-says-one-meaning s ends is =
-    let h = subst (Explains s) is (explained s ends) in
-    let five = h.0.1.1 in
-    (h.0.0, (h.0.1.0, (five.0, five.1, five.2.one_meaning)))
+says-one-meaning s ends is = of-texts s _ _ (λ t k. k.one_meaning) (subst (Explains s) is (explained s ends)).0
+
+-- words that are no command
+pub says-usage : (s : Seen) → Ends s → SaysUsage s
+says-usage s ends none = let c = came s None none ends in unless s c.0 _ (λ d. inl (d.0 ∙ ap status_of c.1.0)) c.2
 
 -- ---- the names that were asked
 
@@ -145,13 +137,12 @@ up-to-asked s which m inside w asked = (
 )
 
 up-to : (s : Seen) (which : ℕ) (x : ShelfEnd) → ReadUpTo (names_of s.words) which x s.before s.after → AsksPrefix s
-up-to s which end.Failed r = up-to-asked s which r.between r.inside r.whole r.refused.asked
-up-to s which end.TooLong r = up-to-asked s which r.between r.inside r.whole r.refused.asked
 up-to s which end.Memory r =
     elim r.refused.asked as (λ _. AsksPrefix s) [
       | inl same ↦ (which, same ∙ r.whole.asked)
       | inr asked ↦ up-to-asked s which r.between r.inside r.whole asked
     ]
+up-to s which _ r = up-to-asked s which r.between r.inside r.whole r.refused.asked
 
 all-asked : (s : Seen) → ReadWhole (names_of s.words) s.before s.after → AsksPrefix s
 all-asked s w = (length (names_of s.words), w.asked ∙ ap (λ z. s.before.names ++ z) (sym (take-length (names_of s.words))))
@@ -160,188 +151,95 @@ none-asked : (s : Seen) → s.after ≡ s.before → AsksPrefix s
 none-asked s same = (0, ap (λ r. r.names) same ∙ sym (append-nil s.before.names))
 
 refused-asked : (s : Seen) (c : Command) (o : Outcome) → RefusesRead c (names_of s.words) s.before s.after o → AsksPrefix s
-refused-asked s c (Unread which) r = up-to s which end.Failed r
-refused-asked s c (Text letter (OfDevice TooLong)) r = up-to s r.0 end.TooLong r.2
-refused-asked s c Memory r = up-to s r.0 end.Memory r.1
-refused-asked s c _ r = absurd r
+refused-asked s c o r = let u = refusal_of c (names_of s.words) s.before s.after o r in up-to s u.0 u.1 u.2
 
-asked-by : (s : Seen) (o : Outcome) → Way (command_of s.words) (names_of s.words) s.before s.after o → AsksPrefix s
-asked-by s o (inl h) = none-asked s h.2
-asked-by s o (inr (inl h)) = none-asked s h.2
-asked-by s o (inr (inr (inl h))) = refused-asked s h.0 o h.3
-asked-by s o (inr (inr (inr (inl h)))) = all-asked s h.1.0
-asked-by s o (inr (inr (inr (inr h)))) = all-asked s h.1.0
+asked-by : (s : Seen) (k : Option Command) (o : Outcome) → Because k (names_of s.words) s.before s.after o → AsksPrefix s
+asked-by s None o h = none-asked s h.1
+asked-by s (Some (Verify b p)) o (inl r) = refused-asked s (Verify b p) o r
+asked-by s (Some (Verify b p)) o (inr h) = all-asked s h.0
+asked-by s (Some Check) o (inl r) = refused-asked s Check o r
+asked-by s (Some Check) o (inr h) = all-asked s h.0
+asked-by s (Some _) o h = none-asked s h.1
 
 -- a run asks for a prefix of the command's texts
 pub asks-prefix : (s : Seen) → Ends s → AsksPrefix s
-asks-prefix s ends = asked-by s ends.0 (way (command_of s.words) (names_of s.words) s.before s.after ends.0 ends.1)
+asks-prefix s ends = asked-by s (command_of s.words) ends.0 ends.1
 
--- ---- where a status comes
+-- ---- five texts that the shelf gave
 
-stopped : (r : Status) (s : Seen) (u v : Bytes) → StopsBoth u v r s.out_before s.out_after s.err_before s.err_after → (r ≡ status.WriteFault) ⊎ (r ≡ status.Memory)
-stopped status.WriteFault s u v h = inl refl
-stopped status.Memory s u v h = inr refl
-stopped _ s u v h = absurd h
+-- what all reads gave is one list
+same-read : (names : List Bytes) (b a : Reads) (w v : ReadWhole names b a) → w.entries ≡ v.entries
+same-read names b a w v = sym (drop-append_seam b.given w.entries) ∙ ap (drop (length b.given)) (sym w.given ∙ v.given) ∙ drop-append_seam b.given v.entries
 
--- words that are no command
-pub says-usage : (s : Seen) → Ends s → SaysUsage s
-says-usage s ends none =
-    let o : ends.0 ≡ NoCommand = (subst (λ k. Because k (names_of s.words) s.before s.after ends.0) none ends.1).0 in
-    elim ends.2 as (λ _. (s.status ≡ status.Usage) ⊎ ((s.status ≡ status.WriteFault) ⊎ (s.status ≡ status.Memory))) [
-      | inl d ↦ inl (d.0 ∙ ap status_of o)
-      | inr h ↦ inr (stopped s.status s _ _ h)
-    ]
+-- how many texts were read
+count-read : (names : List Bytes) (b a : Reads) (w : ReadWhole names b a) → length a.given ≡ length b.given + length names
+count-read names b a w = ap length w.given ∙ length-append b.given w.entries ∙ ap (λ n. length b.given + n) (sym (length-map w.entries (λ e. e.0)) ∙ ap length w.named)
 
-not-none : {G : Type 0} (k : Option Command) → k ≡ None → IsVerify k → G
-not-none k e v = absurd (subst IsVerify e v)
-
-not-other : {G : Type 0} (k : Option Command) → IsVerify k → IsOther k → G
-not-other None v x = absurd v
-not-other (Some (Verify budget paths)) v x = absurd x
-not-other (Some Check) v x = absurd v
-not-other (Some _) v x = absurd v
-
-not-check : {G : Type 0} (k : Option Command) → IsVerify k → IsCheck k → G
-not-check None v x = absurd v
-not-check (Some (Verify budget paths)) v x = absurd x
-not-check (Some Check) v x = absurd v
-not-check (Some _) v x = absurd v
-
--- memory was wanting, or five texts were verified, and the status is that of the answer
-abbrev Answered : Seen → Type 0
-Answered s =
-    (s.status ≡ status.Memory)
-    ⊎ OfTexts (OfFive (λ t. (r : Result Verdict VerifyFault) × (s.status ≡ status_of (outcome_of r)) × IsVerified t r)) (names_of s.words) s.before s.after
-
-refused-answered : (s : Seen) (c : Command) (o : Outcome) → IsUnhindered s → s.status ≡ status_of o → RefusesRead c (names_of s.words) s.before s.after o → Answered s
-refused-answered s c (Unread which) u is r = absurd (u.read (subst (λ n. Rose n s.after.faults) r.whole.faults r.refused.faults))
-refused-answered s c (Text letter (OfDevice TooLong)) u is r = absurd (u.short r.2.refused.taken)
-refused-answered s c Memory u is r = inl is
-refused-answered s c _ u is r = absurd r
-
-way-answered : (s : Seen) (o : Outcome) → IsUnhindered s → s.status ≡ status_of o → Way (command_of s.words) (names_of s.words) s.before s.after o → Answered s
-way-answered s o u is (inl h) = not-none (command_of s.words) h.0 u.verify
-way-answered s o u is (inr (inl h)) = not-other (command_of s.words) u.verify h.0
-way-answered s o u is (inr (inr (inl h))) = refused-answered s h.0 o u is h.3
-way-answered s o u is (inr (inr (inr (inl h)))) =
-    let five = h.1.1 in
-    inr (h.1.0, (five.0, five.1, (five.2.0, is ∙ ap status_of five.2.1, five.2.2)))
-way-answered s o u is (inr (inr (inr (inr h)))) = not-check (command_of s.words) u.verify h.0
-
-stop-answered : (s : Seen) (r : Status) (a b : Bytes) → IsUnhindered s → s.status ≡ r → StopsBoth a b r s.out_before s.out_after s.err_before s.err_after → Answered s
-stop-answered s status.WriteFault a b u is h =
-    elim h.2 as (λ _. Answered s) [
-      | inl x ↦ absurd (u.out_put x)
-      | inr x ↦ absurd (u.err_put x)
-    ]
-stop-answered s status.Memory a b u is h = inl is
-stop-answered s _ a b u is h = absurd h
-
-answered : (s : Seen) → Ends s → IsUnhindered s → Answered s
-answered s ends u =
-    elim ends.2 as (λ _. Answered s) [
-      | inl d ↦ way-answered s ends.0 u d.0 (way (command_of s.words) (names_of s.words) s.before s.after ends.0 ends.1)
-      | inr h ↦ stop-answered s s.status _ _ u refl h
-    ]
+-- no read of a command whose texts were all read was refused
+none-refused : {G : Type 0} (names : List Bytes) (which : ℕ) (x : ShelfEnd) (b a : Reads) → ReadWhole names b a → ReadUpTo names which x b a → G
+none-refused names which x b a w u =
+    let all = count-read names b a w in
+    let some = ap length u.refused.given ∙ count-read (take which names) b u.between u.whole in
+    let cut = length-take which names in
+    let inside = u.inside in
+    absurd (omega (arith, all, some, cut, inside))
 
 -- five texts are known by their list
-same-first : (x y : Bytes) (xs ys : List Bytes) → x ∷ xs ≡ y ∷ ys → x ≡ y
-same-first x y xs ys e = cc
-
-same-rest : (x y : Bytes) (xs ys : List Bytes) → x ∷ xs ≡ y ∷ ys → xs ≡ ys
-same-rest x y xs ys e = cc
-
 same-five : (t u : FiveTexts) → t.c ∷ t.s ∷ t.d ∷ t.e ∷ t.h ∷ [] ≡ u.c ∷ u.s ∷ u.d ∷ u.e ∷ u.h ∷ [] → t ≡ u
-same-five t u p =
-    let q = same-rest _ _ _ _ p in
-    let r = same-rest _ _ _ _ q in
-    let v = same-rest _ _ _ _ r in
-    let w = same-rest _ _ _ _ v in
-    ap (λ x. five x t.s t.d t.e t.h) (same-first _ _ _ _ p)
-    ∙ ap (λ x. five u.c x t.d t.e t.h) (same-first _ _ _ _ q)
-    ∙ ap (λ x. five u.c u.s x t.e t.h) (same-first _ _ _ _ r)
-    ∙ ap (λ x. five u.c u.s u.d x t.h) (same-first _ _ _ _ v)
-    ∙ ap (λ x. five u.c u.s u.d u.e x) (same-first _ _ _ _ w)
+same-five t u p = ap (λ ts. five (get_or ts 0 []) (get_or ts 1 []) (get_or ts 2 []) (get_or ts 3 []) (get_or ts 4 [])) p
 
-verdict-by : (s : Seen) (t : FiveTexts) (r : Result Verdict VerifyFault) (p : Parts) → s.status ≡ status_of (outcome_of r) → IsVerified t r → Means t p → IsVerdict s.status ⊎ (s.status ≡ status.Memory)
-verdict-by s t (Ok Yes) p is k m = inl (subst IsVerdict (sym is) tt)
-verdict-by s t (Ok (Undecided hint choices)) p is k m = inl (subst IsVerdict (sym is) tt)
-verdict-by s t (Ok (TooWide hint bits)) p is k m = inl (subst IsVerdict (sym is) tt)
-verdict-by s t (Err f) p is k m = inr (is ∙ ap (λ (z : VerifyFault). status_of (outcome_of (Err z))) (k.meant p m))
+-- what follows where the answer of their verification was told
+abbrev Follows : Seen → (FiveTexts → Type 0) → Type 0 → Type 0
+Follows s said P = (t : FiveTexts) (r : Result Verdict VerifyFault) → said t → IsVerified t r → Tells s (outcome_of r) → OrStops s P
 
-yes-by : (s : Seen) (t : FiveTexts) (r : Result Verdict VerifyFault) (p : Parts) → s.status ≡ status_of (outcome_of r) → IsVerified t r → Means t p → AllHold p → (s.status ≡ status.Yes) ⊎ (s.status ≡ status.Memory)
-yes-by s t r p is k m holds =
-    elim (k.yes p m holds) as (λ _. (s.status ≡ status.Yes) ⊎ (s.status ≡ status.Memory)) [
-      | inl e ↦ inl (is ∙ ap (λ (z : Result Verdict VerifyFault). status_of (outcome_of z)) e)
-      | inr e ↦ inr (is ∙ ap (λ (z : Result Verdict VerifyFault). status_of (outcome_of z)) e)
-    ]
+by-given : (s : Seen) (said : FiveTexts → Type 0) (P : Type 0) (b p : ℕ) (o : Outcome) → Follows s said P → OfVerified s said → Because (Some (Verify b p)) (names_of s.words) s.before s.after o → Tells s o → OrStops s P
+by-given s said P b p o f v (inl r) d = let u = refusal_of (Verify b p) (names_of s.words) s.before s.after o r in none-refused (names_of s.words) u.0 u.1 s.before s.after v.1.0 u.2
+by-given s said P b p o f v (inr h) d =
+    let same = same-five v.1.1.0 h.1.0 (sym v.1.1.1 ∙ ap texts_of (same-read (names_of s.words) s.before s.after v.1.0 h.0) ∙ h.1.1) in
+    f h.1.0 h.1.2.0 (subst said same v.1.1.2) h.1.2.2 (subst (Tells s) h.1.2.1 d)
+
+given : (s : Seen) (said : FiveTexts → Type 0) (P : Type 0) → Ends s → Follows s said P → OfVerified s said → OrStops s P
+given s said P ends f v =
+    let c = came s (Some (Verify v.0.0 v.0.1)) v.0.2 ends in unless s c.0 P (by-given s said P v.0.0 v.0.1 c.0 f v c.1) c.2
+
+verdict-by : (s : Seen) (t : FiveTexts) (r : Result Verdict VerifyFault) → (p : Parts) × Means t p → IsVerified t r → Tells s (outcome_of r) → OrStops s ((v : Verdict) × (s.status ≡ status_of (Judged v)))
+verdict-by s t (Ok v) m k d = inl (v, d.0)
+verdict-by s t (Err f) m k d = inr (inr (d.0 ∙ ap (λ (z : VerifyFault). status_of (outcome_of (Err z))) (k.meant m.0 m.1)))
 
 pub complete : (s : Seen) → Ends s → IsComplete s
-complete s ends u means =
-    elim (answered s ends u) as (λ _. IsVerdict s.status ⊎ (s.status ≡ status.Memory)) [
-      | inl m ↦ inr m
-      | inr h ↦
-          let given = means h.0 in
-          let same : given.0 ≡ h.1.0 = same-five given.0 h.1.0 (sym given.1 ∙ h.1.1) in
-          verdict-by s h.1.0 h.1.2.0 given.2.0 h.1.2.1 h.1.2.2 (subst (λ (t : FiveTexts). Means t given.2.0) same given.2.1)
-    ]
+complete s ends = given s _ _ ends (verdict-by s)
+
+-- the status of an answer that is one of two
+by-answer : (s : Seen) (P : Type 0) (r wanted : Result Verdict VerifyFault) → Tells s (outcome_of r) → (r ≡ wanted) ⊎ (r ≡ Err refusal.Memory) → (Tells s (outcome_of wanted) → P) → OrStops s P
+by-answer s P r wanted d (inl e) f = inl (f (subst (λ (z : Result Verdict VerifyFault). Tells s (outcome_of z)) e d))
+by-answer s P r wanted d (inr e) f = inr (inr (d.0 ∙ ap (λ (z : Result Verdict VerifyFault). status_of (outcome_of z)) e))
 
 pub complete-yes : (s : Seen) → Ends s → IsCompleteYes s
-complete-yes s ends u means =
-    elim (answered s ends u) as (λ _. (s.status ≡ status.Yes) ⊎ (s.status ≡ status.Memory)) [
-      | inl m ↦ inr m
-      | inr h ↦
-          let given = means h.0 in
-          let same : given.0 ≡ h.1.0 = same-five given.0 h.1.0 (sym given.1 ∙ h.1.1) in
-          yes-by s h.1.0 h.1.2.0 given.2.0 h.1.2.1 h.1.2.2 (subst (λ (t : FiveTexts). Means t given.2.0) same given.2.1) given.2.2
-    ]
-
--- ---- the first fault of five texts
-
-abbrev Told : Seen → VerifyFault → Type 0
-Told s f = ((s.status ≡ status_of (outcome_of (Err f))) × Wrote s [] (to_err (names_of s.words) (outcome_of (Err f)))) ⊎ (s.status ≡ status.Memory)
-
-nothing-out : (f : VerifyFault) → to_out (outcome_of (Err f)) ≡ []
-nothing-out (refusal.Text letter why) = refl
-nothing-out refusal.NotYet = refl
-nothing-out refusal.Memory = refl
-
-told-by : (s : Seen) (f : VerifyFault) (r : Result Verdict VerifyFault) (o : Outcome) → o ≡ outcome_of r → s.status ≡ status_of o → Wrote-of s o → (r ≡ Err f) ⊎ (r ≡ Err refusal.Memory) → Told s f
-told-by s f r o is st w (inl e) =
-    let same : o ≡ outcome_of (Err f) = is ∙ ap outcome_of e in
-    let wrote : Wrote s (to_out (outcome_of (Err f))) (to_err (names_of s.words) (outcome_of (Err f))) = subst (Wrote-of s) same w in
-    inl (st ∙ ap status_of same, subst (λ (out : Bytes). Wrote s out (to_err (names_of s.words) (outcome_of (Err f)))) (nothing-out f) wrote)
-told-by s f r o is st w (inr e) = inr (st ∙ ap status_of (is ∙ ap outcome_of e))
-
-refused-told : (s : Seen) (f : VerifyFault) (c : Command) (o : Outcome) → IsUnhindered s → s.status ≡ status_of o → RefusesRead c (names_of s.words) s.before s.after o → Told s f
-refused-told s f c (Unread which) u is r = absurd (u.read (subst (λ n. Rose n s.after.faults) r.whole.faults r.refused.faults))
-refused-told s f c (Text letter (OfDevice TooLong)) u is r = absurd (u.short r.2.refused.taken)
-refused-told s f c Memory u is r = inr is
-refused-told s f c _ u is r = absurd r
-
-way-told : (s : Seen) (f : VerifyFault) (o : Outcome) → IsUnhindered s → WhereGiven s (λ t. FirstFault t f) → s.status ≡ status_of o → Wrote-of s o → Way (command_of s.words) (names_of s.words) s.before s.after o → Told s f
-way-told s f o u bad is w (inl h) = not-none (command_of s.words) h.0 u.verify
-way-told s f o u bad is w (inr (inl h)) = not-other (command_of s.words) u.verify h.0
-way-told s f o u bad is w (inr (inr (inl h))) = refused-told s f h.0 o u is h.3
-way-told s f o u bad is w (inr (inr (inr (inl h)))) =
-    let five = h.1.1 in
-    let given = bad h.1.0 in
-    let same : given.0 ≡ five.0 = same-five given.0 five.0 (sym given.1 ∙ five.1) in
-    told-by s f five.2.0 o five.2.1 is w (five.2.2.first_fault f (subst (λ (t : FiveTexts). FirstFault t f) same given.2))
-way-told s f o u bad is w (inr (inr (inr (inr h)))) = not-check (command_of s.words) u.verify h.0
-
-stop-told : (s : Seen) (f : VerifyFault) (r : Status) (a b : Bytes) → IsUnhindered s → s.status ≡ r → StopsBoth a b r s.out_before s.out_after s.err_before s.err_after → Told s f
-stop-told s f status.WriteFault a b u is h =
-    elim h.2 as (λ _. Told s f) [
-      | inl x ↦ absurd (u.out_put x)
-      | inr x ↦ absurd (u.err_put x)
-    ]
-stop-told s f status.Memory a b u is h = inr is
-stop-told s f _ a b u is h = absurd h
+complete-yes s ends = given s _ _ ends (λ t r m k d. by-answer s _ r (Ok Yes) d (k.yes m.0 m.1 m.2) (λ y. y.0))
 
 pub tells-first-fault : (s : Seen) → Ends s → TellsFirstFault s
-tells-first-fault s ends f u bad =
-    elim ends.2 as (λ _. Told s f) [
-      | inl d ↦ way-told s f ends.0 u bad d.0 (d.1, d.2) (way (command_of s.words) (names_of s.words) s.before s.after ends.0 ends.1)
-      | inr h ↦ stop-told s f s.status _ _ u refl h
-    ]
+tells-first-fault s ends f = given s _ _ ends (λ t r h k d. by-answer s _ r (Err f) d (k.first_fault f h) (λ y. y))
+
+-- ---- a run that nothing hinders
+
+abbrev Through : Seen → Type 0
+Through s = (OfVerified s (λ t. Unit {0}) × (s.status ≡ status.WriteFault → ⊥)) ⊎ (s.status ≡ status.Memory)
+
+no-write-fault : (s : Seen) → Ends s → IsUnhindered s → s.status ≡ status.WriteFault → ⊥
+no-write-fault s ends u is = elim (subst (Explains s) is (explained s ends)) [ inl x ↦ u.out_put x | inr x ↦ u.err_put x ]
+
+refused-through : (s : Seen) (c : Command) (o : Outcome) → IsUnhindered s → RefusesRead c (names_of s.words) s.before s.after o → s.status ≡ status_of o → Through s
+refused-through s c (Unread which) u r is = absurd (u.read (subst (λ n. Rose n s.after.faults) r.whole.faults r.refused.faults))
+refused-through s c (Text letter (OfDevice TooLong)) u r is = absurd (u.short r.2.refused.taken)
+refused-through s c Memory u r is = inr is
+refused-through s c _ u r is = absurd r
+
+through : (s : Seen) (b p : ℕ) (o : Outcome) → Ends s → IsUnhindered s → Because (Some (Verify b p)) (names_of s.words) s.before s.after o → Tells s o ⊎ Stopped s → Through s
+through s b p o ends u (inr h) d = inl ((u.verify, (h.0, (h.1.0, h.1.1, tt))), no-write-fault s ends u)
+through s b p o ends u (inl r) (inl d) = refused-through s (Verify b p) o u r d.0
+through s b p o ends u (inl r) (inr (inl h)) = absurd (no-write-fault s ends u h.0)
+through s b p o ends u (inl r) (inr (inr m)) = inr m
+
+pub goes-through : (s : Seen) → Ends s → GoesThrough s
+goes-through s ends u =
+    let c = came s (Some (Verify u.verify.0 u.verify.1)) u.verify.2 ends in through s u.verify.0 u.verify.1 c.0 ends u c.1 c.2

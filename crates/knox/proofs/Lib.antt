@@ -3,5 +3,4 @@ pub mod TextsLemmas
 pub mod WritingLemmas
 pub mod RunsLemmas
 pub mod CheckSteps
-pub mod OneEnd
 pub mod ConsequencesLemmas

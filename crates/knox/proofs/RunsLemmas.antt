@@ -1,18 +1,11 @@
 -- From reads and outcomes to how a run ends.
-use Rattle.std.proofs.Common.{◌≡◌, ◌∙◌, ◌≤◌, ◌-◌, ℕ, List, ◌++◌, length, drop, min, ap, sym, subst, arith, Some}
-use Rattle.std.proofs.lemmas.List.{length-map, length-take, length-drop}
-use Rattle.std.specs.declared.vec.Vec.{Vec}
-use Rattle.std.specs.declared.alloc.Global.{Global}
+use Rattle.std.proofs.Common.{◌≡◌, ◌∙◌, ℕ, List, ◌++◌, length, drop, ap, sym, subst, Some}
 use Rattle.std.proofs.Math.Seq.{drop-append_seam}
-use Rattle.knox_edge.specs.Texts.{Bytes, Reads, bytes_of}
-use Rattle.knox_edge.specs.Sink.{Sunk}
-use Rattle.knox.specs.declared.command.Command.{Command}
-use Rattle.knox.specs.declared.outcome.Outcome.{Outcome}
-use Rattle.knox.specs.declared.status.Status.{Status}
+use Rattle.knox.specs.Words.{Bytes, Reads, Sunk, Command, Outcome, Status}
 use Rattle.knox.specs.Commands.{command_of}
 use Rattle.knox.specs.Outcomes.{status_of, to_out, to_err}
 use Rattle.knox.specs.Reading.{ReadWhole, OfTexts, texts_of}
-use Rattle.knox.specs.Runs.{seen, ComesTo, Because, Ends, names_of}
+use Rattle.knox.specs.Runs.{seen, Because, Ends, names_of}
 use Rattle.knox.specs.Writing.{Delivers}
 
 -- what is said of the texts that the reads gave
@@ -21,29 +14,17 @@ of-texts said names b a first w e h =
     let given = ap (drop first) w.given ∙ ap (λ n. drop n (b.given ++ w.entries)) e ∙ drop-append_seam b.given w.entries in
     (w, subst (λ es. said (texts_of es)) given h)
 
-count-names : (words names : List (Vec ℕ Global)) → bytes_of names ≡ names_of (bytes_of words) → length names ≡ min 5 (length words - 1)
-count-names words names e =
-    sym (length-map names (λ v. v.items)) ∙ ap length e ∙ length-take 5 (drop 1 (bytes_of words))
-    ∙ ap (min 5) (length-drop 1 (bytes_of words) ∙ ap (λ k. k - 1) (length-map words (λ v. v.items)))
-
--- the names of a verify command's texts are five
-pub length-names : (words names : List (Vec ℕ Global)) → bytes_of names ≡ names_of (bytes_of words) → 5 ≤ length words - 1 → length names ≡ 5
-length-names words names e enough = let n = count-names words names e in omega (arith, n, enough)
-
--- those of a check command's texts are two
-pub length-two : (words names : List (Vec ℕ Global)) → bytes_of names ≡ names_of (bytes_of words) → length words - 1 ≡ 2 → length names ≡ 2
-length-two words names e are = let n = count-names words names e in omega (arith, n, are)
-
 -- the command and the names by others that are the same
-pub because-named : (ws names : List Bytes) (b a : Reads) (o : Outcome) (k : Command) → command_of ws ≡ Some k → names ≡ names_of ws → ComesTo k names b a o → Because (command_of ws) (names_of ws) b a o
-because-named ws names b a o k is e h = subst (λ c. Because c (names_of ws) b a o) (sym is) (subst (λ ns. ComesTo k ns b a o) e h)
+pub because-named : (ws names : List Bytes) (b a : Reads) (o : Outcome) (k : Command) → command_of ws ≡ Some k → names ≡ names_of ws → Because (Some k) names b a o → Because (command_of ws) (names_of ws) b a o
+because-named ws names b a o k is e h = subst (λ c. Because c (names_of ws) b a o) (sym is) (subst (λ ns. Because (Some k) ns b a o) e h)
 
 -- what some words come to, and what becomes of it, is how a run of them ends
-pub ends-by : (ws given : List Bytes) (b a : Reads) (o : Outcome) (result : Status) (x x' y y' : Sunk) → given ≡ ws → Because (command_of given) (names_of given) b a o → Delivers (to_out o) (to_err (names_of given) o) (status_of o) result x x' y y' → Ends (seen ws b a x x' y y' result)
-ends-by ws given b a o result x x' y y' is because delivers = (
+pub ends-by : (ws given names : List Bytes) (b a : Reads) (o : Outcome) (result : Status) (x x' y y' : Sunk) → given ≡ ws → names ≡ names_of given → Because (command_of given) (names_of given) b a o →
+    Delivers (to_out o) (to_err names o) (status_of o) result x x' y y' → Ends (seen ws b a x x' y y' result)
+ends-by ws given names b a o result x x' y y' is called because delivers = (
   o,
   subst (λ v. Because (command_of v) (names_of v) b a o) is because,
-  subst (λ v. Delivers (to_out o) (to_err (names_of v) o) (status_of o) result x x' y y') is delivers,
+  subst (λ v. Delivers (to_out o) (to_err v o) (status_of o) result x x' y y') (called ∙ ap names_of is) delivers,
 )
 
 -- an answer by another value of its parts

@@ -5,9 +5,9 @@ use Rattle.std.specs.Fmt.{decimal}
 use Rattle.knox_circuit.specs.Why.TheVariants as circuit
 use Rattle.expr_read.specs.declared.faults.LangWhy.TheVariants as lang
 use Rattle.script_read.specs.declared.fault.ScriptWhy.TheVariants as script
-use Rattle.lrat_check.specs.declared.step.Step.TheVariants as step
+use Rattle.rat_check.specs.declared.rat_step.RatStep.TheVariants as step
 use Rattle.proof_text.specs.declared.fault.ProofFault.TheVariants as proof
-use Rattle.knox.specs.Words.{Bytes, Bits, Place, Why, LangWhy, ScriptWhy, Step, Letter, C, S, D, E, H, T, F, P, TooLong, Circuit, Lang, Script}
+use Rattle.knox.specs.Words.{Bytes, Bits, Place, Why, LangWhy, ScriptWhy, RatStep, Letter, C, S, D, E, H, T, F, P, TooLong, Circuit, Lang, Script}
 use Rattle.knox.specs.Words.{Verdict, Yes, Undecided, TooWide, TextFault, OfDevice, OfProof, CheckEnd, Verified, Rejected, NoEmptyClause}
 
 abbrev pub usage_line : Bytes
@@ -91,11 +91,13 @@ text_line letter (OfProof proof.Memory) = codes "text " ++ (letter_name letter +
 abbrev pub rejected_with : ℕ → Bytes → ℕ → Bytes
 rejected_with number word id = codes "rejected line " ++ (decimal number ++ (word ++ (decimal id ++ codes "\n")))
 
-abbrev pub rejected_line : ℕ → Step → Bytes
+abbrev pub rejected_line : ℕ → RatStep → Bytes
 rejected_line number (step.IdNotNew id) = rejected_with number (codes " IdNotNew ") id
-rejected_line number (step.Rat id) = rejected_with number (codes " Rat ") id
 rejected_line number (step.NoSuchClause id) = rejected_with number (codes " NoSuchClause ") id
 rejected_line number (step.NotUnit id) = rejected_with number (codes " NotUnit ") id
+rejected_line number (step.NotPivot id) = rejected_with number (codes " NotPivot ") id
+rejected_line number (step.Uncovered id) = rejected_with number (codes " Uncovered ") id
+rejected_line number step.NoPivot = codes "rejected line " ++ (decimal number ++ codes " NoPivot\n")
 rejected_line number step.NoConflict = codes "rejected line " ++ (decimal number ++ codes " NoConflict\n")
 rejected_line number step.Memory = codes "rejected line " ++ (decimal number ++ codes " Memory\n")
 

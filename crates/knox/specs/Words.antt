@@ -9,8 +9,8 @@ pub use Rattle.expr_read.specs.declared.faults.LangWhy.{LangWhy}
 pub use Rattle.script_read.specs.declared.fault.ScriptWhy.{ScriptWhy}
 pub use Rattle.script_core.specs.declared.parts.{HintNo.HintNo, Choices.Choices}
 pub use Rattle.knox_cnf.specs.{Formulas.clauses_true, declared.formula.Cnf.Cnf}
-pub use Rattle.lrat_check.specs.{declared.step.Step.Step, declared.lemma.Lemma.Lemma}
-pub use Rattle.lrat_check.specs.Derivations.{Proof, proof, lemma, start_of, answer, with_lemma, live_without, is_closed}
+pub use Rattle.lrat_check.specs.{declared.lemma.Lemma.Lemma, Derivations.Proof, Derivations.proof, Derivations.lemma, Derivations.start_of, Derivations.with_lemma, Derivations.is_closed}
+pub use Rattle.rat_check.specs.{declared.rat_step.RatStep.RatStep, Refutations.answer, Refutations.live_without}
 pub use Rattle.proof_text.specs.{Dimacs.cnf_of, Lrat.lrat_of, Unread.lines_left, declared.fault.ProofFault.ProofFault}
 pub use Rattle.proof_text.specs.declared.proof_line.ProofLine.{ProofLine, TheVariants.Add, TheVariants.Delete}
 pub use Rattle.knox_edge.specs.Texts.{Bytes, Named, Reads, bytes_of, limit}

@@ -54,13 +54,16 @@ fn writes(alloc: Global, formula: &[u8], proof: &[u8], line: &[u8]) -> Result<bo
 }
 
 /// Formulas and proofs of them that are verified.
-const REFUTING: [(&[u8], &[u8]); 5] = [
+const REFUTING: [(&[u8], &[u8]); 7] = [
     (FOUR, REFUTED),
     (FOUR, b"5 2 0 1 2 0\n5 d 1 0\n6 0 5 3 4 0\n"),
     (b"p cnf 0 1\n0\n", b""),
     // Lines after the empty clause, and its deletion.
     (FOUR, b"5 2 0 1 2 0\n6 0 5 3 4 0\n7 1 0 6 0\n0 d 6 0\n"),
     (PIGEONS, NO_PIGEONS),
+    // RAT lines: by two groups, and on a new variable.
+    (FOUR, b"5 -1 0 -1 2 -3 4 0\n6 0 5 1 3 0\n"),
+    (FOUR, b"5 3 1 0 0\n6 2 0 1 2 0\n7 0 6 3 4 0\n"),
 ];
 
 #[test]
@@ -72,7 +75,7 @@ fn proofs_that_are_verified(rt: HostRuntime) -> Result<(), Fail> {
 }
 
 /// Formulas, proofs that are refused, and the line that is written.
-const REJECTED: [(&[u8], &[u8], &[u8]); 12] = [
+const REJECTED: [(&[u8], &[u8], &[u8]); 14] = [
     (
         FOUR,
         b"5 2 0 1 7 0\n6 0 5 3 4 0\n",
@@ -97,8 +100,10 @@ const REJECTED: [(&[u8], &[u8], &[u8]); 12] = [
     (
         FOUR,
         b"5 2 0 -1 2 0\n6 0 5 3 4 0\n",
-        b"rejected line 1 Rat 5\n",
+        b"rejected line 1 NotPivot 1\n",
     ),
+    (FOUR, b"5 -1 0 -1 2 0\n", b"rejected line 1 Uncovered 3\n"),
+    (FOUR, b"5 0 -1 2 0\n", b"rejected line 1 NoPivot\n"),
     (
         FOUR,
         b"5 2 0 1 2 0\n5 d 9 0\n6 0 5 3 4 0\n",

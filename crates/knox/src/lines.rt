@@ -9,8 +9,8 @@ use knox_circuit::Why;
 use knox_text::Place;
 use knox_verify::{Letter, TextWhy, Verdict};
 use knox_words::Word;
-use lrat_check::Step;
 use proof_text::ProofFault;
+use rat_check::RatStep;
 use script_read::ScriptWhy;
 use std::alloc::{AllocError, Global};
 
@@ -94,16 +94,20 @@ pub fn text_line(alloc: Global, letter: Letter, why: TextFault) -> Result<String
 }
 
 /// The line of a proof's line that is refused.
-fn rejected(alloc: Global, number: u32, why: Step) -> Result<String, AllocError>
+fn rejected(alloc: Global, number: u32, why: RatStep) -> Result<String, AllocError>
     ensures { IfOk result (λ line. string_bytes line ≡ the.rejected_line number why) }
 {
     match why {
-        Step::IdNotNew(id) => format!(in alloc; "rejected line {number} IdNotNew {id}\n"),
-        Step::Rat(id) => format!(in alloc; "rejected line {number} Rat {id}\n"),
-        Step::NoSuchClause(id) => format!(in alloc; "rejected line {number} NoSuchClause {id}\n"),
-        Step::NotUnit(id) => format!(in alloc; "rejected line {number} NotUnit {id}\n"),
-        Step::NoConflict => format!(in alloc; "rejected line {number} NoConflict\n"),
-        Step::Memory => format!(in alloc; "rejected line {number} Memory\n"),
+        RatStep::IdNotNew(id) => format!(in alloc; "rejected line {number} IdNotNew {id}\n"),
+        RatStep::NoSuchClause(id) => format!(in alloc;
+            "rejected line {number} NoSuchClause {id}\n"
+        ),
+        RatStep::NotUnit(id) => format!(in alloc; "rejected line {number} NotUnit {id}\n"),
+        RatStep::NotPivot(id) => format!(in alloc; "rejected line {number} NotPivot {id}\n"),
+        RatStep::Uncovered(id) => format!(in alloc; "rejected line {number} Uncovered {id}\n"),
+        RatStep::NoPivot => format!(in alloc; "rejected line {number} NoPivot\n"),
+        RatStep::NoConflict => format!(in alloc; "rejected line {number} NoConflict\n"),
+        RatStep::Memory => format!(in alloc; "rejected line {number} Memory\n"),
     }
 }
 

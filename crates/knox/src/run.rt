@@ -1,9 +1,11 @@
 //! A run of the program: its words, then the reads, then the work, then the writing.
-ghost use Rattle.std.specs.Prelude.{◌≡◌, ◌≤◌, Some, take, length};
-ghost use Rattle.knox_edge.specs.Texts.{bytes_of};
+ghost use Rattle.std.specs.Prelude.{◌≡◌, ◌-◌, Some, length, min};
+ghost use Rattle.knox.specs.Words.{bytes_of};
 ghost use Rattle.knox.specs.Commands.{command_of};
-ghost use Rattle.knox.specs.Runs.{seen, Because, ComesTo, Ends, names_of};
-ghost use Rattle.knox.specs.Consequences.{SaysYes, SaysClosed, SaysOneMeaning, SaysUsage, IsComplete, IsCompleteYes, TellsFirstFault, Explains, AsksPrefix};
+ghost use Rattle.knox.specs.Outcomes.{status_of, to_out, to_err};
+ghost use Rattle.knox.specs.Writing.{Delivers};
+ghost use Rattle.knox.specs.Runs.{seen, Because, Ends, names_of};
+ghost use Rattle.knox.specs.Consequences.{SaysYes, SaysClosed, SaysOneMeaning, SaysUsage, IsComplete, IsCompleteYes, TellsFirstFault, GoesThrough, Explains, AsksPrefix};
 
 use crate::answer::{answer_of, deliver};
 use crate::command::{Command, read_command};
@@ -17,19 +19,14 @@ use std::alloc::Global;
 
 /// The names of a command's texts: five words after the first, or all of fewer.
 fn text_names(words: &[Vec<u8>]) -> &[Vec<u8>]
-    ensures { bytes_of result.now ≡ names_of (bytes_of words.now) }
+    ensures names { bytes_of result.now ≡ names_of (bytes_of words.now) }
+    ensures count { length result.now ≡ min 5 (length words.now - 1) }
 {
     match words {
         [] => words,
-        [_, names @ ..] => first_five(names),
+        [_, names @ ..] if names.len() > 5 => &names[..5],
+        [_, names @ ..] => names,
     }
-}
-
-/// The first five of some words, or all of fewer.
-fn first_five(words: &[Vec<u8>]) -> &[Vec<u8>]
-    ensures { bytes_of result.now ≡ take 5 (bytes_of words.now) }
-{
-    if words.len() > 5 { &words[..5] } else { words }
 }
 
 /// Verifies the texts of these names, which are the five of a verify command.
@@ -41,7 +38,7 @@ fn verify<F: Shelf>(
     paths: u32,
 ) -> Outcome
     requires { length names.now ≡ 5 }
-    ensures { ComesTo (Command.Verify budget paths) (bytes_of names.now) (F.history shelf.old) (F.history shelf.new) result }
+    ensures { Because (Some (Command.Verify budget paths)) (bytes_of names.now) (F.history shelf.old) (F.history shelf.new) result }
 {
     match read_texts(Command::Verify { budget, paths }, names, shelf) {
         Ok(first) => judge(alloc, &*shelf, first, budget, paths),
@@ -52,7 +49,7 @@ fn verify<F: Shelf>(
 /// Checks the texts of these names, which are the two of a check command.
 fn check<F: Shelf>(alloc: Global, names: &[Vec<u8>], shelf: &mut F) -> Outcome
     requires { length names.now ≡ 2 }
-    ensures { ComesTo Command.Check (bytes_of names.now) (F.history shelf.old) (F.history shelf.new) result }
+    ensures { Because (Some Command.Check) (bytes_of names.now) (F.history shelf.old) (F.history shelf.new) result }
 {
     match read_texts(Command::Check, names, shelf) {
         Ok(first) => check_given(alloc, &*shelf, first),
@@ -71,6 +68,22 @@ fn work<F: Shelf>(alloc: Global, words: &[Vec<u8>], shelf: &mut F) -> Outcome
         }
         Some(Command::Check) => check(alloc, text_names(words), shelf),
         Some(_) => Outcome::Unbuilt,
+    }
+}
+
+/// Puts what an outcome says on the sinks, where the command's texts have these names.
+fn say<O: Sink, E: Sink>(
+    alloc: Global,
+    outcome: &Outcome,
+    names: &[Vec<u8>],
+    out: &mut O,
+    err: &mut E,
+) -> Status
+    ensures { Delivers (to_out outcome.now) (to_err (bytes_of names.now) outcome.now) (status_of outcome.now) result (O.told out.old) (O.told out.new) (E.told err.old) (E.told err.new) }
+{
+    match answer_of(alloc, outcome, names) {
+        Ok(answer) => deliver(&answer, out, err),
+        Err(_) => Status::Memory,
     }
 }
 
@@ -97,6 +110,7 @@ pub fn run<F: Shelf, O: Sink, E: Sink>(
     ensures complete { IsComplete (seen (bytes_of words.now.items.items) (F.history shelf.old) (F.history shelf.new) (O.told out.old) (O.told out.new) (E.told err.old) (E.told err.new) result) }
     ensures complete_yes { IsCompleteYes (seen (bytes_of words.now.items.items) (F.history shelf.old) (F.history shelf.new) (O.told out.old) (O.told out.new) (E.told err.old) (E.told err.new) result) }
     ensures first_fault { TellsFirstFault (seen (bytes_of words.now.items.items) (F.history shelf.old) (F.history shelf.new) (O.told out.old) (O.told out.new) (E.told err.old) (E.told err.new) result) }
+    ensures unhindered { GoesThrough (seen (bytes_of words.now.items.items) (F.history shelf.old) (F.history shelf.new) (O.told out.old) (O.told out.new) (E.told err.old) (E.told err.new) result) }
     ensures usage { SaysUsage (seen (bytes_of words.now.items.items) (F.history shelf.old) (F.history shelf.new) (O.told out.old) (O.told out.new) (E.told err.old) (E.told err.new) result) }
     ensures names { AsksPrefix (seen (bytes_of words.now.items.items) (F.history shelf.old) (F.history shelf.new) (O.told out.old) (O.told out.new) (E.told err.old) (E.told err.new) result) }
     ensures ends { Ends (seen (bytes_of words.now.items.items) (F.history shelf.old) (F.history shelf.new) (O.told out.old) (O.told out.new) (E.told err.old) (E.told err.new) result) }
@@ -104,8 +118,5 @@ pub fn run<F: Shelf, O: Sink, E: Sink>(
 {
     let words = words.items.as_slice();
     let outcome = work(alloc, words, shelf);
-    match answer_of(alloc, &outcome, text_names(words)) {
-        Ok(answer) => deliver(&answer, out, err),
-        Err(_) => Status::Memory,
-    }
+    say(alloc, &outcome, text_names(words), out, err)
 }

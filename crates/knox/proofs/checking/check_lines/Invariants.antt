@@ -1,10 +1,11 @@
-use Rattle.std.proofs.Common.{length}
-use Rattle.proof_text.specs.Unread.{lines_left}
-use Rattle.knox.proofs.CheckSteps.{HasAccepted}
+use Rattle.std.proofs.Common.{◌≡◌, length, None}
+use Rattle.knox.specs.Words.{lines_left}
+use Rattle.knox.proofs.CheckSteps.{end_left}
 use Rattle.knox.proofs.checking.check_lines.Given as goal
 
-abbrev pub invariant-loop-derivation : goal.invariant-loop-derivation
-invariant-loop-derivation l = HasAccepted l.fn.derivation l.derivation (lines_left l.fn.reader) (lines_left l.reader)
+abbrev pub invariant-loop-refutation : goal.invariant-loop-refutation
+invariant-loop-refutation l =
+    (end_left None l.fn.refutation (lines_left l.fn.reader) ≡ end_left l.refused l.refutation (lines_left l.reader)) × (l.refutation.cnf ≡ l.fn.refutation.cnf)
 
-abbrev pub decreases-loop-derivation : goal.decreases-loop-derivation
-decreases-loop-derivation l = length l.reader.text
+abbrev pub decreases-loop-refutation : goal.decreases-loop-refutation
+decreases-loop-refutation l = length l.reader.text
