@@ -1,9 +1,0 @@
-use Rattle.knox.proofs.RunsLemmas.{delivers-as}
-use Rattle.knox.proofs.WritingLemmas.{delivers-none}
-use Rattle.knox.proofs.run.say.Goals as goal
-
-pub returns-in-Ok : goal.returns-in-Ok
-returns-in-Ok g c = delivers-as _ _ _ _ _ _ c.deliver.result _ _ _ _ c.in-Ok.ensures.out c.in-Ok.ensures.err c.in-Ok.ensures.status c.deliver.ensures
-
-pub returns-in-Err : goal.returns-in-Err
-returns-in-Err g c = delivers-none _ (g.O.Sink.told c.args.out.now) (g.E.Sink.told c.args.err.now) _ _
