@@ -1,7 +1,7 @@
 -- Five texts mean at most one thing, or have one first fault and mean nothing.
-use Rattle.std.proofs.Common.{◌≡◌, ◌≤◌, ◌<◌, ◌⊎◌, inl, inr, ℕ, List, Bool, true, false, Result, Ok, Err, IfOk, IfErr, length, refl, sym, ◌∙◌, ap, subst, arith}
+use Rattle.std.proofs.Common.{◌≡◌, ◌⊎◌, inl, inr, List, Bool, true, false, Result, Ok, Err, IfOk, IfErr, refl, sym, ◌∙◌, ap, subst, arith}
 use Rattle.btor_read.proofs.MeaningLemmas.{one-circuit, one-fault, faultless}
-use Rattle.knox_verify.specs.Words.{Place, start_of, end_of, Tree, MeansTrees, Bytes, limit, Circuit, SpecParts, DriverParts, EmuParts, ScriptParts, spec_text, driver_text, emulator_text, script_text, fits_device}
+use Rattle.knox_verify.specs.Words.{Place, start_of, end_of, Tree, MeansTrees, Bytes, Circuit, SpecParts, DriverParts, EmuParts, ScriptParts, spec_text, driver_text, emulator_text, script_text, fits_device}
 use Rattle.knox_verify.specs.declared.verdict.Letter.{Letter, TheVariants.C, TheVariants.S, TheVariants.D, TheVariants.E, TheVariants.H}
 use Rattle.knox_verify.specs.declared.verdict.TextWhy.TheVariants as why
 use Rattle.knox_verify.specs.declared.verdict.Verdict.{Verdict, TheVariants.Yes, TheVariants.Undecided, TheVariants.TooWide}
