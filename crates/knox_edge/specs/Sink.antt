@@ -1,5 +1,5 @@
 -- What a put into a sink may answer, and what it leaves.
-use Rattle.std.specs.Prelude.{◌≡◌, ℕ, List, [], ◌∷◌, take, Option, Some, None, Result, Ok, Err, Bool, if◌then◌else◌, ◌⊎◌}
+use Rattle.std.specs.Prelude.{◌≡◌, ℕ, List, [], ◌∷◌, take, Option, Some, None, Result, Ok, Err, if◌then◌else◌, ◌⊎◌}
 use Rattle.std.specs.Io.KnownBytes.{Appends, Keeps}
 use Rattle.knox_edge.specs.declared.sink.SinkEnd.{SinkEnd, TheVariants.Failed, TheVariants.Memory}
 use Rattle.knox_edge.specs.{Counts.Rose, Counts.next_count, Texts.Bytes, Shelf.is_in}
@@ -37,14 +37,11 @@ abbrev pub CountsFault : Put → ℕ → ℕ → Type 0
 CountsFault (Err Failed) before now = Rose before now
 CountsFault _ before now = now ≡ before
 
--- a put fails exactly where its number is one of these, but for want of memory
-abbrev pub FailsAt : Bool → Put → Type 0
-FailsAt stands r = (r ≡ Err Memory) ⊎ (r ≡ (if stands then Err Failed else Ok tt))
-
--- where it is told: every put of a piece with bytes is counted, and fails exactly where its number is one of those that fail
+-- where it is told: every put of a piece with bytes is counted, and fails exactly where its number is one of those that fail, but for want of memory
 abbrev pub Counted : Bytes → Put → Failing → Failing → Type 0
 Counted [] r old new = new ≡ old
-Counted (b ∷ bs) r old new = (new ≡ record old { counted = next_count old.counted }) × FailsAt (is_in old.numbers (next_count old.counted)) r
+Counted (b ∷ bs) r old new =
+    (new ≡ record old { counted = next_count old.counted }) × ((r ≡ Err Memory) ⊎ (r ≡ (if is_in old.numbers (next_count old.counted) then Err Failed else Ok tt)))
 
 -- the same at what may not be told, which stays so
 abbrev pub CountedWhereTold : Bytes → Put → Option Failing → Option Failing → Type 0

@@ -34,8 +34,7 @@ impl History {
         ensures ok { OnOk result (history_of self.new ≡ record (history_of self.old) { names = (history_of self.old).names ++ name.now ∷ []; taken = 0 }) }
         ensures err { OnErr result (history_of self.new ≡ history_of self.old) }
     {
-        let name = Vec::from_slice(self.alloc, name)?;
-        self.names.push(name)?;
+        self.names.push(Vec::from_slice(self.alloc, name)?)?;
         self.taken = 0;
         Ok(())
     }
@@ -47,8 +46,8 @@ impl History {
         ensures err { OnErr result (history_of self.new ≡ history_of self.old) }
     {
         let place = self.given.len();
-        let name = Vec::from_slice(self.alloc, name)?;
-        self.given.push((name, bytes))?;
+        self.given
+            .push((Vec::from_slice(self.alloc, name)?, bytes))?;
         Ok(place)
     }
 }

@@ -55,9 +55,9 @@ impl Shelf for MemShelf {
 
     fn read(&mut self, name: &[u8]) -> Result<usize, ShelfEnd> {
         self.history.ask(name)?;
-        let number = self.history.names.len() as u64;
         let bytes = match entry(self.held.as_slice(), name) {
-            Some(bytes) if !is_one_of(self.fail.as_slice(), number) => bytes,
+            Some(bytes) if !is_one_of(self.fail.as_slice(), self.history.names.len() as u64) =>
+                bytes,
             _ => {
                 self.history.faults = self.history.faults.saturating_add(1);
                 return Err(ShelfEnd::Failed);

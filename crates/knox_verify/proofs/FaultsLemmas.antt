@@ -1,7 +1,7 @@
 -- Five texts mean at most one thing, or have one first fault and mean nothing.
-use Rattle.std.proofs.Common.{◌≡◌, ◌≤◌, ◌<◌, ◌⊎◌, inl, inr, ℕ, List, Bool, true, false, Result, Ok, Err, IfOk, IfErr, length, refl, sym, ◌∙◌, ap, subst, arith}
+use Rattle.std.proofs.Common.{◌≡◌, ◌⊎◌, inl, inr, List, Bool, true, false, Result, Ok, Err, IfOk, IfErr, refl, sym, ◌∙◌, ap, subst, arith}
 use Rattle.btor_read.proofs.MeaningLemmas.{one-circuit, one-fault, faultless}
-use Rattle.knox_verify.specs.Words.{Place, start_of, end_of, Tree, MeansTrees, Bytes, limit, Circuit, SpecParts, DriverParts, EmuParts, ScriptParts, spec_text, driver_text, emulator_text, script_text, fits_device}
+use Rattle.knox_verify.specs.Words.{Place, start_of, end_of, Tree, MeansTrees, Bytes, Circuit, SpecParts, DriverParts, EmuParts, ScriptParts, spec_text, driver_text, emulator_text, script_text, fits_device}
 use Rattle.knox_verify.specs.declared.verdict.Letter.{Letter, TheVariants.C, TheVariants.S, TheVariants.D, TheVariants.E, TheVariants.H}
 use Rattle.knox_verify.specs.declared.verdict.TextWhy.TheVariants as why
 use Rattle.knox_verify.specs.declared.verdict.Verdict.{Verdict, TheVariants.Yes, TheVariants.Undecided, TheVariants.TooWide}
@@ -24,17 +24,11 @@ pub record One {A : Type 0} (meaning : A → Type 0) (fault : VerifyFault → Ty
 -- of a condition and what stands behind it
 unless-one : {A : Type 0} (fails holds : Type 0) (e : VerifyFault) (meaning : A → Type 0) (fault : VerifyFault → Type 0) → (fails → holds → ⊥) → One meaning fault →
     One (λ x. holds × meaning x) (Unless fails holds e fault)
-unless-one {A} fails holds e meaning fault never one = record { same = λ x y p q. one.same x y p.1 q.1; told = told; apart = apart }
-  where
-    told : (f g : VerifyFault) → Unless fails holds e fault f → Unless fails holds e fault g → f ≡ g
-    told f g (inl a) (inl b) = a.1 ∙ sym b.1
-    told f g (inl a) (inr b) = absurd (never a.0 b.0)
-    told f g (inr a) (inl b) = absurd (never b.0 a.0)
-    told f g (inr a) (inr b) = one.told f g a.1 b.1
-
-    apart : (x : A) (f : VerifyFault) → holds × meaning x → Unless fails holds e fault f → ⊥
-    apart x f p (inl a) = never a.0 p.0
-    apart x f p (inr a) = one.apart x f p.1 a.1
+unless-one fails holds e meaning fault never one = record {
+  same = λ x y p q. one.same x y p.1 q.1;
+  told = λ f g a b. grind (arith, never, one.told f g);
+  apart = λ x f p a. grind (arith, never, one.apart x f);
+}
 
 -- of a text and what stands behind it
 then-one : {A B : Type 0} (fault : VerifyFault → Type 0) (meaning : A → Type 0) (next : A → VerifyFault → Type 0) (means : A → B → Type 0) → One meaning fault → ((x : A) → One (means x) (next x)) →
@@ -105,15 +99,12 @@ five-one one t =
 -- ---- what is refused
 
 pub is-false : (b : Bool) → (b ≡ true → false ≡ true) → b ≡ false
-is-false true h = sym (h refl)
-is-false false h = refl
+is-false b h = grind (arith, h)
 
 -- ---- what follows of a refusal that is the first fault, and of a verdict
 
-pub meant-memory : {V : Type 0} (t : FiveTexts) (p : Parts) (r : Result V VerifyFault) → One (Means t) (FirstFault t) → Means t p → IfErr r (OrMemory (FirstFault t)) → IfErr r (λ f. f ≡ Memory)
-meant-memory t p (Ok v) one m said = tt
-meant-memory t p (Err f) one m (inl e) = e
-meant-memory t p (Err f) one m (inr bad) = absurd (one.apart p f m bad)
+pub meant-memory : {A V : Type 0} (meaning : A → Type 0) (fault : VerifyFault → Type 0) (p : A) (r : Result V VerifyFault) → One meaning fault → meaning p → IfErr r (OrMemory fault) → IfErr r (λ f. f ≡ Memory)
+meant-memory meaning fault p r one m said = grind (arith, one.apart p)
 
 pub first-told : (t : FiveTexts) (f : VerifyFault) (r : Result Verdict VerifyFault) → One (Means t) (FirstFault t) → FirstFault t f → IfOk r (λ v. (p : Parts) × Means t p × Decides p v) → IfErr r (OrMemory (FirstFault t)) →
     (r ≡ Err f) ⊎ (r ≡ Err Memory)
@@ -130,4 +121,4 @@ held-yes p (TooWide hint bits) held says =
 pub yes-told : (t : FiveTexts) (p : Parts) (r : Result Verdict VerifyFault) → One (Means t) (FirstFault t) → Means t p → AllHold p → IfOk r (λ v. (p : Parts) × Means t p × Decides p v) → IfErr r (OrMemory (FirstFault t)) →
     (r ≡ Ok Yes) ⊎ (r ≡ Err Memory)
 yes-told t p (Ok v) one m held judged said = inl (ap Ok (held-yes p v held (subst (λ q. Decides q v) (one.same judged.0 p judged.1 m) judged.2)))
-yes-told t p (Err f) one m held judged said = inr (ap Err (meant-memory {V = Verdict} t p (Err f) one m said))
+yes-told t p (Err f) one m held judged said = inr (ap Err (meant-memory {V = Verdict} (Means t) (FirstFault t) p (Err f) one m said))

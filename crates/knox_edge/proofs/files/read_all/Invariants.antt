@@ -1,5 +1,4 @@
-use Rattle.std.proofs.Common.{◌≤◌, ◌+◌, ◌-◌, length}
-use Rattle.std.specs.Io.KnownBytes.{Consumes}
+use Rattle.std.{proofs.Common.◌≤◌, proofs.Common.◌+◌, proofs.Common.◌-◌, proofs.Common.length, specs.Io.KnownBytes.Consumes}
 use Rattle.knox_edge.specs.Texts.{limit}
 use Rattle.knox_edge.proofs.files.read_all.Given as goal
 
