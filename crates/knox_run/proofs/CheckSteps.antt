@@ -1,5 +1,5 @@
 -- Lines of a proof, taken one after another while they are read.
-use Rattle.std.proofs.Common.{◌≡◌, ◌∙◌, ℕ, List, ◌∷◌, ap, sym, refl, Option, Result, Ok, Err}
+use Rattle.std.proofs.Common.{◌≡◌, ◌∙◌, ℕ, List, ◌∷◌, ap, Option, Result, Ok, Err}
 use Rattle.proof_text.specs.Results.{and_then}
 use Rattle.knox_run.specs.Words.{ProofLine, ProofFault, Proof, RatStep, CheckEnd}
 use Rattle.knox_run.specs.Checking.{end_with}

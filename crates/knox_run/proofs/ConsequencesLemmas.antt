@@ -1,12 +1,12 @@
 -- What each status says follows from how a run ends.
-use Rattle.std.proofs.Common.{◌≡◌, ◌∙◌, ◌<◌, ◌+◌, ℕ, List, [], ◌∷◌, ◌++◌, length, min, take, drop, get_or, ap, sym, subst, inl, inr, ◌⊎◌, append_assoc, append-nil, Option, Some, None, Result, Ok, Err, refl, arith}
+use Rattle.std.proofs.Common.{◌≡◌, ◌∙◌, ◌<◌, ◌+◌, ℕ, List, [], ◌∷◌, ◌++◌, length, take, drop, get_or, ap, sym, subst, inl, inr, ◌⊎◌, append_assoc, append-nil, Option, Some, None, Result, Ok, Err, refl, arith}
 use Rattle.std.proofs.lemmas.List.{take_more, length-append, length-map, length-take}
 use Rattle.std.proofs.Math.Seq.{take-length, drop-append_seam}
 use Rattle.knox_edge.specs.declared.shelf.ShelfEnd.TheVariants as end
 use Rattle.knox_verify.specs.declared.verdict.VerifyFault.TheVariants as refusal
 use Rattle.knox_run.specs.declared.status.Status.TheVariants as status
-use Rattle.knox_run.specs.Words.{Bytes, Reads, Rose, ShelfEnd, TooLong, Verdict, Yes, Undecided, TooWide, VerifyFault, Parts, AllHold, FiveTexts, five, Means, FirstFault}
-use Rattle.knox_run.specs.Words.{Command, Verify, Check, Status, CheckEnd, Verified, Rejected, NoEmptyClause, Outcome, NoCommand, Unbuilt, Unread, Text, Judged, Checked, Memory, OfDevice}
+use Rattle.knox_run.specs.Words.{Bytes, Reads, Rose, ShelfEnd, TooLong, Verdict, Yes, Undecided, TooWide, VerifyFault, Parts, FiveTexts, five, Means, FirstFault}
+use Rattle.knox_run.specs.Words.{Command, Verify, Check, Status, Verified, Rejected, NoEmptyClause, Outcome, NoCommand, Unbuilt, Unread, Text, Judged, Checked, Memory, OfDevice}
 use Rattle.knox_run.specs.Commands.{command_of}
 use Rattle.knox_run.specs.Outcomes.{status_of, to_out, to_err}
 use Rattle.knox_run.specs.Reading.{ReadWhole, ReadUpTo, RefusesRead, texts_of}
