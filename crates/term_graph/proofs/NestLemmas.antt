@@ -1,9 +1,8 @@
 -- Choices one of whose terms is a choice that has the other.
-use Rattle.std.proofs.Common.{◌≡◌, ◌==◌, ℕ, zero, suc, ◌^◌, ◌<◌, ◌≤◌, Bool, true, List, [], length, take, slice_get, Some, refl, sym, ap, ◌∙◌, subst, arith, bit_and, bit_or, if◌then◌else◌}
+use Rattle.std.proofs.Common.{◌≡◌, ◌==◌, ℕ, zero, suc, ◌^◌, ◌<◌, ◌≤◌, List, [], length, take, slice_get, Some, refl, sym, ap, ◌∙◌, subst, arith, bit_and, bit_or, if◌then◌else◌}
 use Rattle.std.proofs.lemmas.List.{length-take-le}
-use Rattle.knox_words.specs.Bits.{Bits, bits, IsWord}
-use Rattle.knox_words.specs.Ops.{op2_or, fits2_of}
-use Rattle.knox_words.specs.declared.op.Op2.{Op2}
+use Rattle.knox_words.specs.Bits.{Bits, IsWord}
+use Rattle.knox_words.specs.Ops.{op2_or}
 use Rattle.knox_words.specs.declared.op.Op2.TheVariants.{And, Or}
 use Rattle.knox_words.proofs.Results.{op2_or-value}
 use Rattle.term_graph.specs.declared.node.Node.{Node}
