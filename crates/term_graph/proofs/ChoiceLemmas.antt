@@ -1,6 +1,6 @@
 -- Choices between terms of width 1 of which one is a word.
 use Rattle.std.proofs.Common.{◌≡◌, ◌==◌, ℕ, zero, suc, ◌-◌, ◌^◌, ◌<◌, Bool, true, false, List, [], length, refl, sym, ap, ◌∙◌, subst, arith, bit_and, bit_or, if◌then◌else◌, eqb-true}
-use Rattle.knox_words.specs.Bits.{Bits, bits, IsWord}
+use Rattle.knox_words.specs.Bits.{Bits, bits}
 use Rattle.knox_words.specs.Ops.{op1_value, op2_or, fits2_of}
 use Rattle.knox_words.specs.declared.op.Op1.TheVariants.{Not}
 use Rattle.knox_words.specs.declared.op.Op2.{Op2}

@@ -1,5 +1,5 @@
 -- Extensions and slices of terms: those that are the term itself, and words that are equal to an extension.
-use Rattle.std.proofs.Common.{◌≡◌, ◌==◌, ℕ, suc, ◌+◌, ◌-◌, ◌*◌, ◌/◌, ◌%◌, ◌^◌, ◌<◌, ◌≤◌, nat_lt, nat_le, Bool, true, false, Option, Some, None, List, [], length, take, slice_get, refl, sym, ap, ◌∙◌, subst, arith, add-zero, if◌then◌else◌, eqb-true, eq-eqb}
+use Rattle.std.proofs.Common.{◌≡◌, ◌==◌, ℕ, ◌+◌, ◌-◌, ◌*◌, ◌/◌, ◌%◌, ◌^◌, ◌<◌, ◌≤◌, nat_lt, nat_le, Bool, true, false, Option, Some, None, List, [], length, take, slice_get, refl, sym, ap, ◌∙◌, subst, arith, add-zero, if◌then◌else◌, eqb-true, eq-eqb}
 use Rattle.std.specs.Prelude.{pos, negsuc}
 use Rattle.std.specs.Option.{ForSome}
 use Rattle.std.specs.Cmp.{nat_eq_equiv}

@@ -98,7 +98,7 @@ fold-slice old new t a h l x is g = gives-same new t _ _ g (λ v. ap (λ (y : Bi
 pub chosen : (c a b : Bits) → a.width ≡ b.width → ite_or c a b ≡ ite_value c a b
 chosen c a b h = ap (λ (t : Bool). if t then ite_value c a b else bits 1 0) (subst (λ (k : ℕ). (a.width == k) ≡ true) h (nat_eq_equiv.refl a.width))
 
-alike : (ns : List Node) (a b : ℕ) → width_of ns a ≡ width_of ns b → (v : List Bits) → (value v ns a).width ≡ (value v ns b).width
+pub alike : (ns : List Node) (a b : ℕ) → width_of ns a ≡ width_of ns b → (v : List Bits) → (value v ns a).width ≡ (value v ns b).width
 alike ns a b h v = value-width v ns a ∙ (h ∙ sym (value-width v ns b))
 
 pub choose-equal : (ns : List Node) (c a b : ℕ) → a < length ns → width_of ns a ≡ width_of ns b → a ≡ b → Gives ns a (λ v. ite_or (value v ns c) (value v ns a) (value v ns b))

@@ -7,3 +7,4 @@ pub mod RuleLemmas
 pub mod ExtendLemmas
 pub mod BecomeLemmas
 pub mod ChoiceLemmas
+pub mod NestLemmas

@@ -164,6 +164,16 @@ pub record Chooses (ns : List Node) (c a b : ℕ) (o : Op2) (r : Rule) (x : ℕ)
   pub fits : fits2_of o (ruled r (value [] ns c)).width (width_of ns x) ≡ true
   pub same : (v : List Bits) → op2_or o (ruled r (value v ns c)) (value v ns x) ≡ ite_or (value v ns c) (value v ns a) (value v ns b)
 
+-- a term is a choice between two others
+pub record IsChoice (ns : List Node) (t d x y : ℕ) : Type 0 where
+  pub condition : d < length ns
+  pub first : x < length ns
+  pub second : y < length ns
+  pub bit : width_of ns d ≡ 1
+  pub same : width_of ns x ≡ width_of ns y
+  pub wide : width_of ns x ≡ width_of ns t
+  pub is : (v : List Bits) → value v ns t ≡ ite_or (value v ns d) (value v ns x) (value v ns y)
+
 -- a term that a rule takes to a value under each valuation
 pub record Becomes (ns : List Node) (t : ℕ) (r : Rule) (f : List Bits → Bits) : Type 0 where
   pub each : (v : List Bits) → ruled r (value v ns t) ≡ f v

@@ -5,7 +5,7 @@ ghost use Rattle.std.specs.Option.{ForSome};
 ghost use Rattle.knox_words.specs.Ops.{op1_value, op2_or, fits2_of, sext_or, uext_or, slice_or};
 ghost use Rattle.term_graph.specs.Value.{value, width_of, ite_or};
 ghost use Rattle.term_graph.specs.Kept.{Keeps, Gives, IsAlways};
-ghost use Rattle.term_graph.specs.Rules.{ruled, Becomes, Chooses, Narrows, narrow_value};
+ghost use Rattle.term_graph.specs.Rules.{ruled, Becomes, Chooses, IsChoice, Narrows, narrow_value};
 
 use crate::graph::Graph;
 use crate::node::{Node, Term};
@@ -14,6 +14,14 @@ use crate::rules::{
 };
 use knox_words::{Op1, Op2, Word};
 use std::alloc::AllocError;
+
+/// The children of a choice.
+#[derive(Clone, Copy)]
+struct Arms {
+    condition: Term,
+    first: Term,
+    second: Term,
+}
 
 impl Graph {
     /// The term that is a word. `Err` is want of memory.
@@ -354,6 +362,63 @@ impl Graph {
         self.place_of(Node::Ite(c, a, b), width)
     }
 
+    /// The children of a term that is a choice.
+    fn arms(&self, t: Term) -> Option<Arms>
+        requires { t < length self.now }
+        ensures { IfSome result (λ r. IsChoice self.now t r.condition r.first r.second) }
+    {
+        match self.node(t) {
+            Node::Ite(condition, first, second) => Some(Arms {
+                condition,
+                first,
+                second,
+            }),
+            _ => None,
+        }
+    }
+
+    /// A choice by what an operator makes of two conditions.
+    fn joint(&mut self, o: Op2, c: Term, d: Term, a: Term, b: Term) -> Result<Term, AllocError>
+        requires outer { c < length self.old }
+        requires inner { d < length self.old }
+        requires first { a < length self.old }
+        requires second { b < length self.old }
+        requires fits { IsTrue (fits2_of o (width_of self.old c) (width_of self.old d)) }
+        requires bit { (op2_or o (value [] self.old c) (value [] self.old d)).width ≡ 1 }
+        requires same { width_of self.old a ≡ width_of self.old b }
+        ensures kept { Keeps self.old self.new }
+        ensures value { IfOk result (λ t. Gives self.new t (λ v. ite_or (op2_or o (value v self.old c) (value v self.old d)) (value v self.old a) (value v self.old b))) }
+    {
+        let e = self.bin(o, c, d)?;
+        let t = self.choice(e, a, b)?;
+        Ok(t)
+    }
+
+    /// `a` where `c` is 1, and else `b`, where one of the two may be a choice that has the other.
+    fn nested(&mut self, c: Term, a: Term, b: Term) -> Result<Term, AllocError>
+        requires condition { c < length self.old }
+        requires first { a < length self.old }
+        requires second { b < length self.old }
+        requires bit { width_of self.old c ≡ 1 }
+        requires same { width_of self.old a ≡ width_of self.old b }
+        ensures kept { Keeps self.old self.new }
+        ensures value { IfOk result (λ t. Gives self.new t (λ v. ite_or (value v self.old c) (value v self.old a) (value v self.old b))) }
+    {
+        if let Some(inner) = self.arms(a) {
+            if inner.second.place() == b.place() {
+                let t = self.joint(Op2::And, c, inner.condition, inner.first, inner.second)?;
+                return Ok(t);
+            }
+        }
+        if let Some(inner) = self.arms(b) {
+            if inner.first.place() == a.place() {
+                let t = self.joint(Op2::Or, c, inner.condition, inner.first, inner.second)?;
+                return Ok(t);
+            }
+        }
+        self.choice(c, a, b)
+    }
+
     /// `a` where `c`, of width 1, is 1, and else `b`, of the same width. `Err` is want of memory.
     #[tactic(auto, using(crate::proofs::FoldLemmas::turning_choice))]
     pub fn ite(&mut self, c: Term, a: Term, b: Term) -> Result<Term, AllocError>
@@ -366,9 +431,9 @@ impl Graph {
         ensures value { IfOk result (λ t. Gives self.new t (λ v. ite_or (value v self.old c) (value v self.old a) (value v self.old b))) }
     {
         if let Some(d) = self.undone(Op1::Not, c) {
-            let t = self.choice(d, b, a)?;
+            let t = self.nested(d, b, a)?;
             return Ok(t);
         }
-        self.choice(c, a, b)
+        self.nested(c, a, b)
     }
 }
