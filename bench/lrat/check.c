@@ -43,7 +43,7 @@ static long number(void) {
 }
 
 static void push(long **numbers, long *count, long *most, long n) {
-    if (*count == *most) *numbers = realloc(*numbers, (*most = *most ? 2 * *most : 1024) * sizeof **numbers);
+    if (*count == *most) *numbers = realloc(*numbers, (*most = *most ? 2 * *most : 4) * sizeof **numbers);
     (*numbers)[(*count)++] = n;
 }
 

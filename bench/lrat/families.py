@@ -115,16 +115,26 @@ def multipliers(width):
     return circuit.one_differs(circuit.multiply(ones, others), circuit.multiply(others, ones))
 
 
+# Those that a solver is given: it needs a second or two for each.
 FAMILIES = {
-    **{f"pigeonhole {holes}": (lambda holes=holes: pigeonhole(holes)) for holes in (7, 8, 9, 10)},
-    "random 150": lambda: random_clauses(150, 750, 1),
-    "random 200": lambda: random_clauses(200, 1000, 2),
-    "parity 14": lambda: parity(14, 1),
-    "parity 17": lambda: parity(17, 2),
-    "adders 32": lambda: adders(32),
-    "adders 64": lambda: adders(64),
-    "multipliers 6": lambda: multipliers(6),
-    "multipliers 7": lambda: multipliers(7),
+    "solved-pigeonhole-7": lambda: pigeonhole(7),
+    "solved-pigeonhole-8": lambda: pigeonhole(8),
+    "solved-random-250": lambda: random_clauses(250, 1200, 3),
+    "solved-parity-22": lambda: parity(22, 1),
+    "solved-adders-128": lambda: adders(128),
+    "solved-multipliers-8": lambda: multipliers(8),
+}
+
+# .. and ten small ones.
+SMALL = {
+    "pigeonhole-6": lambda: pigeonhole(6),
+    "pigeonhole-7": lambda: pigeonhole(7),
+    **{f"random-{seed}": (lambda seed=seed: random_clauses(120, 650, seed)) for seed in (1, 2, 3)},
+    "parity-12": lambda: parity(12, 1),
+    "parity-14": lambda: parity(14, 2),
+    "adders-16": lambda: adders(16),
+    "adders-32": lambda: adders(32),
+    "multipliers-6": lambda: multipliers(6),
 }
 
 
