@@ -9,4 +9,6 @@ mod formulas;
 #[cfg(test)]
 mod refutations;
 #[cfg(test)]
+mod solving;
+#[cfg(test)]
 mod texts;
