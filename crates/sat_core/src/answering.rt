@@ -2,10 +2,12 @@
 ghost use Rattle.std.specs.Prelude.{◌≡◌, ◌≤◌, ◌+◌, ◌*◌, length, IfOk, true, Some};
 ghost use Rattle.knox_cnf.specs.Formulas.{is_within};
 ghost use Rattle.sat_core.specs.Storing.{Finishes};
+ghost use Rattle.sat_core.specs.Searching.{IsSearch};
 ghost use Rattle.sat_core.specs.Solving.{IsSound};
 ghost use Rattle.sat_core.specs.Answers.{IsSpent, TurnsTo, RunsTo, Answers};
 
 use crate::conflicts::{learn_from, refute_from};
+use crate::deciding::go_back;
 use crate::exploring::{explore, values};
 use crate::search::Search;
 use knox_cnf::{Assignment, Cnf};
@@ -34,6 +36,22 @@ enum Outcome {
     Learned,
 }
 
+/// Undoes all decisions once in a while.
+fn restart(search: &mut Search)
+    requires { IsSearch search.old }
+    ensures search { IsSearch search.new }
+    ensures stored { search.new.stored ≡ search.old.stored }
+    ensures lists { search.new.lists ≡ search.old.lists }
+{
+    if !search.order.is_time() {
+        return;
+    }
+    if search.decisions.is_empty() {
+        return;
+    }
+    go_back(search, 0);
+}
+
 /// Goes on to the next false clause, and adds the lemma that follows.
 fn turn(
     alloc: Global,
@@ -43,6 +61,7 @@ fn turn(
     requires { IsSound derivation.old search.old }
     ensures { IfOk result (TurnsTo derivation.old derivation.new search.old search.new) }
 {
+    restart(search);
     let Some(conflict) = explore(alloc, search)? else {
         return Ok(Outcome::Model);
     };

@@ -36,7 +36,11 @@ pub fn learn_from(
         conflict,
         alloc,
     )?;
-    let Analysis { kept, cone: _cone } = found;
+    let Analysis { kept, cone } = found;
+    search.order.bump_all(kept.as_slice());
+    search
+        .order
+        .bump_places(search.trail.literals(), cone.as_slice());
     let level = level_of(&search.trail, search.decisions.as_slice(), kept.as_slice());
     go_back(search, level);
     attach(search, kept)?;

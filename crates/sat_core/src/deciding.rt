@@ -43,6 +43,7 @@ pub fn go_back(search: &mut Search, level: usize)
     ensures decisions { search.new.decisions.items ≡ take level search.old.decisions.items }
 {
     let at = search.decisions[level];
+    search.order.release(search.trail.literals(), at);
     search.trail.truncate(at);
     search.reasons.truncate(at);
     search.decisions.truncate(level);

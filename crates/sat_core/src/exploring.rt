@@ -1,11 +1,12 @@
 //! The search for a model, up to the next clause that is false.
-ghost use Rattle.std.specs.Prelude.{◌≡◌, ◌<◌, ◌≤◌, ◌+◌, ◌*◌, ◌^◌, ◌⊎◌, length, IfOk, OnOk, MatchOption, true};
+ghost use Rattle.std.specs.Prelude.{◌≡◌, ◌<◌, ◌≤◌, ◌+◌, ◌*◌, ◌^◌, ◌⊎◌, length, IfOk, IfSome, OnOk, MatchOption, true};
 ghost use Rattle.knox_cnf.specs.Literals.{literal, has};
 ghost use Rattle.sat_core.specs.Explained.{SameClauses};
 ghost use Rattle.sat_core.specs.Searching.{IsSearch};
 ghost use Rattle.sat_core.specs.Models.{IsAssigned, AreAssigned, IsChoice, Explored, TellsValues};
 
 use crate::deciding::decide;
+use crate::order::Order;
 use crate::propagation::propagate_search;
 use crate::search::Search;
 use crate::trail::Trail;
@@ -24,8 +25,8 @@ fn positive(var: u64) -> Option<Lit>
     Lit::new(var as i64)
 }
 
-/// The literal of a variable that makes it false, if the variable isn't assigned.
-fn unassigned(trail: &Trail, var: u64, limit: usize) -> Option<Lit>
+/// The literal of a variable that makes it this, if the variable isn't assigned.
+fn unassigned(trail: &Trail, var: u64, phase: bool, limit: usize) -> Option<Lit>
     requires low { 1 ≤ var }
     requires high { 2 * var + 1 < limit }
     ensures { MatchOption result (IsAssigned trail.now var) (IsChoice trail.now limit) }
@@ -33,26 +34,57 @@ fn unassigned(trail: &Trail, var: u64, limit: usize) -> Option<Lit>
     match positive(var) {
         Some(lit) => {
             if trail.holds(lit) || is_false(trail, lit) {
-                None
-            } else {
-                Some(lit.complement())
+                return None;
             }
+            if phase {
+                return Some(lit);
+            }
+            Some(lit.complement())
         }
         None => None,
     }
 }
 
-/// A literal of a variable that isn't assigned.
-fn choose(trail: &Trail, limit: usize) -> Option<Lit>
+/// A literal of the first variable that isn't assigned.
+fn choose_first(trail: &Trail, limit: usize) -> Option<Lit>
     ensures { MatchOption result (AreAssigned trail.now limit) (IsChoice trail.now limit) }
 {
     for var in 1..limit / 2 {
-        let choice = unassigned(trail, var as u64, limit);
+        let choice = unassigned(trail, var as u64, false, limit);
         if choice.is_some() {
             return choice;
         }
     }
     None
+}
+
+/// A literal of the variable that is next in the order.
+fn choose_next(order: &mut Order, trail: &Trail, limit: usize) -> Option<Lit>
+    ensures { IfSome result (IsChoice trail.now limit) }
+{
+    for _k in 0..order.len() {
+        let Some(var) = order.take() else {
+            return None;
+        };
+        if var >= 1 && var < limit / 2 {
+            let choice = unassigned(trail, var as u64, order.phase(var), limit);
+            if choice.is_some() {
+                return choice;
+            }
+        }
+    }
+    None
+}
+
+/// A literal of a variable that isn't assigned, by the order if it has one.
+fn choose(order: &mut Order, trail: &Trail, limit: usize) -> Option<Lit>
+    ensures { MatchOption result (AreAssigned trail.now limit) (IsChoice trail.now limit) }
+{
+    let choice = choose_next(order, trail, limit);
+    if choice.is_some() {
+        return choice;
+    }
+    choose_first(trail, limit)
 }
 
 /// Decides and propagates until a clause is false, whose place is the answer, or all variables are
@@ -69,7 +101,7 @@ pub fn explore(alloc: Global, search: &mut Search) -> Result<Option<usize>, Allo
         if conflict.is_some() {
             return Ok(conflict);
         }
-        match choose(&search.trail, search.lists.len()) {
+        match choose(&mut search.order, &search.trail, search.lists.len()) {
             Some(lit) => decide(search, lit)?,
             None => return Ok(None),
         }

@@ -4,6 +4,7 @@ ghost use Rattle.knox_cnf.specs.Formulas.{is_within};
 ghost use Rattle.sat_core.specs.Explained.{SameClauses};
 ghost use Rattle.sat_core.specs.Searching.{IsSearch};
 
+use crate::order::Order;
 use crate::storing::{empty_lists, store, widest};
 use crate::trail::Trail;
 use crate::watch_lists::{Places, Watches};
@@ -26,6 +27,8 @@ pub struct Search {
     pub done: usize,
     /// The clauses before this place that have fewer than two literals are satisfied.
     pub looked: usize,
+    /// In which order variables are decided.
+    pub order: Order,
 }
 
 impl Drop for Search {
@@ -38,6 +41,7 @@ impl Drop for Search {
             decisions: _decisions,
             done: _done,
             looked: _looked,
+            order: _order,
         } = self;
     }
 }
@@ -52,6 +56,7 @@ impl Search {
     {
         let mut lists = empty_lists(alloc, widest(clauses))?;
         let stored = store(alloc, clauses, lists.as_mut_slice())?;
+        let order = Order::new(alloc, lists.len() / 2)?;
         Ok(Search {
             stored,
             lists,
@@ -60,6 +65,7 @@ impl Search {
             decisions: Vec::new(alloc),
             done: 0,
             looked: 0,
+            order,
         })
     }
 }
