@@ -7,10 +7,12 @@ use std::alloc::Global;
 use std::test::Fail;
 
 /// Four pigeons in three holes.
-const PIGEONS: &[u8] = b"p cnf 12 22\n1 2 3 0\n4 5 6 0\n7 8 9 0\n10 11 12 0\n-1 -4 0\n-1 -7 0\n-1 -10 0\n-4 -7 0\n-4 -10 0\n-7 -10 0\n-2 -5 0\n-2 -8 0\n-2 -11 0\n-5 -8 0\n-5 -11 0\n-8 -11 0\n-3 -6 0\n-3 -9 0\n-3 -12 0\n-6 -9 0\n-6 -12 0\n-9 -12 0\n";
+const PIGEONS: &[u8] =
+    b"p cnf 12 22\n1 2 3 0\n4 5 6 0\n7 8 9 0\n10 11 12 0\n-1 -4 0\n-1 -7 0\n-1 -10 0\n-4 -7 0\n-4 -10 0\n-7 -10 0\n-2 -5 0\n-2 -8 0\n-2 -11 0\n-5 -8 0\n-5 -11 0\n-8 -11 0\n-3 -6 0\n-3 -9 0\n-3 -12 0\n-6 -9 0\n-6 -12 0\n-9 -12 0\n";
 
 /// Doubled literals, complementary ones, units, and a variable that stands in no clause.
-const MIXED: &[u8] = b"p cnf 6 7\n1 1 2 0\n-1 3 -3 0\n-2 4 4 0\n-4 -1 5 0\n-5 -5 0\n2 -1 0\n1 2 -4 0\n";
+const MIXED: &[u8] =
+    b"p cnf 6 7\n1 1 2 0\n-1 3 -3 0\n-2 4 4 0\n-4 -1 5 0\n-5 -5 0\n2 -1 0\n1 2 -4 0\n";
 
 fn read(alloc: Global, text: &[u8]) -> Result<Cnf, Fail> {
     let cnf = read_cnf(alloc, text)
