@@ -9,6 +9,4 @@ mod formulas;
 #[cfg(test)]
 mod refutations;
 #[cfg(test)]
-mod solving;
-#[cfg(test)]
 mod texts;
