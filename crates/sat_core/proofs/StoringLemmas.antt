@@ -1,7 +1,8 @@
 -- Clauses are stored one after another.
 use Rattle.std.proofs.Common.{◌≡◌, ℕ, zero, suc, ◌+◌, ◌*◌, ◌<◌, ◌≤◌, Bool, true, false, ◌||◌, List, [], ◌∷◌, ◌++◌, length, length-append, take, refl, sym, ◌∙◌, ap, subst, arith, inl, inr, if◌then◌else◌}
-use Rattle.std.specs.Prelude.{slice_set}
-use Rattle.std.proofs.lemmas.Bool.{cases_Bool, or_cases, or_left, or_right, true≢false, both_ways}
+use Rattle.std.specs.Prelude.{slice_set, slice_index_or, nat_le}
+use Rattle.knox_cnf.specs.Formulas.{clause_within, is_within}
+use Rattle.std.proofs.lemmas.Bool.{and_parts, leb-true, cases_Bool, or_cases, or_left, or_right, true≢false, both_ways}
 use Rattle.std.proofs.lemmas.List.{length-set, get_or-set_same}
 use Rattle.knox_cnf.specs.Literals.{Literal, same_literal, has}
 use Rattle.lrat_check.specs.Marks.{index_of}
@@ -9,7 +10,7 @@ use Rattle.lrat_check.proofs.LiteralLemmas.{same_literal-true, same_literal-refl
 use Rattle.sat_core.specs.Chains.{clause_at}
 use Rattle.sat_core.specs.Watches.{HasSame}
 use Rattle.sat_core.specs.Visits.{IsDistinct, times, watch}
-use Rattle.sat_core.specs.Lists.{list_at, among, FitsLists}
+use Rattle.sat_core.specs.Lists.{HasList, list_at, among, FitsLists}
 use Rattle.sat_core.specs.Storing.{IsAbove, AddsOnce, IsSetOf, Fits, Lists, Stores}
 use Rattle.sat_core.proofs.Listing.{among-last}
 use Rattle.sat_core.proofs.Outcomes.{more-listed}
@@ -27,22 +28,22 @@ pub all-above : (cs : List (List Literal)) (k n : ℕ) → length cs ≤ k → (
 all-above cs k n h a = subst (λ (xs : List (List Literal)). (j : ℕ) → IsAbove n (clause_at xs j)) (take-whole k cs h) a
 
 -- one more literal
-pub above-step : (ls : List Literal) (k n m : ℕ) (x : Literal) → take (suc k) ls ≡ take k ls ++ x ∷ [] → IsAbove n (take k ls) → n ≤ m → x.var ≤ m → IsAbove m (take (k + 1) ls)
-above-step ls k n m x e a h v = subst (λ (z : ℕ). IsAbove m (take z ls)) (next k) (subst (IsAbove m) (sym e) (record {
+pub above-step : (ls : List Literal) (k n m : ℕ) (x : Literal) → take (suc k) ls ≡ take k ls ++ x ∷ [] → IsAbove n (take k ls) → n ≤ m → 1 ≤ x.var → x.var ≤ m → IsAbove m (take (k + 1) ls)
+above-step ls k n m x e a h low v = subst (λ (z : ℕ). IsAbove m (take z ls)) (next k) (subst (IsAbove m) (sym e) (record {
   each = λ y g. elim (or_cases (has (take k ls) y) (same_literal y x) (sym (has-push (take k ls) x y) ∙ g)) [
-    | inl q ↦ (let b : y.var ≤ n = a.each y q in omega (arith, b, h))
-    | inr q ↦ subst (λ (z : Literal). z.var ≤ m) (sym (same_literal-true y x q)) v
+    | inl q ↦ (let b = a.each y q in let c = b.1 in (b.0, omega (arith, c, h)))
+    | inr q ↦ subst (λ (z : Literal). (1 ≤ z.var) × (z.var ≤ m)) (sym (same_literal-true y x q)) (low, v)
   ];
 }))
 
 pub above-more : (c : List Literal) (n m : ℕ) → n ≤ m → IsAbove n c → IsAbove m c
-above-more c n m h a = record { each = λ y g. let b : y.var ≤ n = a.each y g in omega (arith, b, h) }
+above-more c n m h a = record { each = λ y g. let b = a.each y g in let c = b.1 in (b.0, omega (arith, c, h)) }
 
 pub above-none : (n : ℕ) → IsAbove n []
 above-none n = record { each = λ x h. absurd (true≢false (sym h)) }
 
 -- what holds of each clause by its place, where one more is pushed
-push-each : (P : ℕ → List Literal → Type 0) (cs : List (List Literal)) (d : List Literal) → ((k : ℕ) → P k (clause_at cs k)) → P (length cs) d → (k : ℕ) → P k (clause_at (cs ++ d ∷ []) k)
+pub push-each : (P : ℕ → List Literal → Type 0) (cs : List (List Literal)) (d : List Literal) → ((k : ℕ) → P k (clause_at cs k)) → P (length cs) d → (k : ℕ) → P k (clause_at (cs ++ d ∷ []) k)
 push-each P [] d f g zero = g
 push-each P [] d f g (suc k) = f (suc k)
 push-each P (c ∷ cs) d f g zero = f zero
@@ -55,7 +56,7 @@ all-above-step cs k n h m d c e a p q s b =
     (push-each (λ j x. IsAbove m x) (take k cs) c (λ j. above-more (clause_at (take k cs) j) n m p (a j)) (subst (IsAbove m) s (above-more d h m q b))))
 
 pub fits-above : (cs : List (List Literal)) (n m : ℕ) → m ≡ 2 * n + 2 → ((k : ℕ) → IsAbove n (clause_at cs k)) → FitsLists cs m
-fits-above cs n m e a = record { each = λ k x h. let b : x.var ≤ n = (a k).each x h in omega (arith, b, e) }
+fits-above cs n m e a = record { each = λ k x h. let b = (a k).each x h in let c = b.1 in record { low = b.0; high = omega (arith, c, e) } }
 
 -- ---- sets
 
@@ -66,7 +67,7 @@ times-append [] d x = nothing (times d x)
     nothing n = omega arith
 times-append (y ∷ c) d x = let e = times-append c d x in omega (arith, e)
 
-times-none : (c : List Literal) (x : Literal) → has c x ≡ false → times c x ≡ 0
+pub times-none : (c : List Literal) (x : Literal) → has c x ≡ false → times c x ≡ 0
 times-none [] x h = refl
 times-none (y ∷ c) x h = elim (cases_Bool (same_literal x y)) [
   | inl e ↦ absurd (both_ways (has (y ∷ c) x) h (or_left (same_literal x y) (has c x) e))
@@ -117,7 +118,7 @@ at-has (x ∷ c) (suc j) h = or_right (same_literal (watch c j) x) (has c (watch
 
 pub watch-fits : (c : List Literal) (j n m : ℕ) (x : Literal) → j < length c → x ≡ watch c j → m ≡ n → Fits c n → index_of x < m
 watch-fits c j n m x h e l f =
-    subst (λ (z : ℕ). index_of x < z) (sym l) (below x.var x.positive (f.each x (ap (has c) e ∙ at-has c j h)))
+    subst (λ (z : ℕ). index_of x < z) (sym l) (below x.var x.positive (f.each x (ap (has c) e ∙ at-has c j h)).high)
   where
     below : (v : ℕ) (b : Bool) → 2 * v + 1 < n → 2 * v + (if b then 0 else 1) < n
     below v true g = omega (arith, g)
@@ -164,7 +165,7 @@ stores-none lists = record {
   long = refl;
 }
 
-same-push : (xs ys : List (List Literal)) (c d : List Literal) → length ys ≡ length xs → ((k : ℕ) → HasSame (clause_at xs k) (clause_at ys k)) → HasSame c d → (k : ℕ) → HasSame (clause_at (xs ++ c ∷ []) k) (clause_at (ys ++ d ∷ []) k)
+pub same-push : (xs ys : List (List Literal)) (c d : List Literal) → length ys ≡ length xs → ((k : ℕ) → HasSame (clause_at xs k) (clause_at ys k)) → HasSame c d → (k : ℕ) → HasSame (clause_at (xs ++ c ∷ []) k) (clause_at (ys ++ d ∷ []) k)
 same-push [] [] c d e f g zero = g
 same-push [] [] c d e f g (suc k) = f (suc k)
 same-push [] (y ∷ ys) c d e f g k = absurd (omega (arith, e))
@@ -174,7 +175,7 @@ same-push (x ∷ xs) (y ∷ ys) c d e f g (suc k) = same-push xs ys c d (omega (
 
 pub set-fits : (cs : List (List Literal)) (k n m : ℕ) (c e d : List Literal) → FitsLists cs n → c ≡ clause_at cs k → e ≡ c → IsSetOf e d → m ≡ n → Fits d m
 set-fits cs k n m c e d f is s t l = record {
-  each = λ x h. subst (λ (z : ℕ). 2 * x.var + 1 < z) (sym l) (f.each k x (ap (λ y. has y x) (sym (s ∙ is)) ∙ t.same.each x ∙ h));
+  each = λ x h. subst (λ (z : ℕ). HasList z x) (sym l) (f.each k x (ap (λ y. has y x) (sym (s ∙ is)) ∙ t.same.each x ∙ h));
 }
 
 pub stores-step : (cs stored now : List (List Literal)) (lists more : List (List ℕ)) (k n p : ℕ) (c e d f : List Literal) → take (suc k) cs ≡ take k cs ++ c ∷ [] → Stores (take k cs) stored lists n → e ≡ c → IsSetOf e d → p ≡ length stored → f ≡ d → Lists f p lists more → now ≡ stored ++ d ∷ [] → Stores (take (k + 1) cs) now more n
@@ -193,3 +194,18 @@ stores-step cs stored now lists more k n p c e d f t s ec set pl fd ls is =
       };
       long = ls.long ∙ s.long;
     })))
+
+-- ---- the least number
+
+pub at-most : {b : ℕ} (a m n : ℕ) → (a < n + 1 → b < n + 1 → m < n + 1) → a ≤ n → b ≤ n → m ≤ n
+at-most a m n f h k = let r = f (omega (arith, h)) (omega (arith, k)) in omega (arith, r)
+
+pub literal-within : (n : ℕ) (c : List Literal) (k : ℕ) (x : Literal) → k < length c → x ≡ slice_index_or c k x → clause_within n c ≡ true → x.var ≤ n
+literal-within n [] k x h e w = absurd (omega (arith, h))
+literal-within n (y ∷ c) zero x h e w = subst (λ (z : Literal). z.var ≤ n) (sym e) (leb-true y.var n (and_parts (nat_le y.var n) (clause_within n c) w).0)
+literal-within n (y ∷ c) (suc k) x h e w = literal-within n c k x (omega (arith, h)) e (and_parts (nat_le y.var n) (clause_within n c) w).1
+
+pub clause-inside : (n : ℕ) (cs : List (List Literal)) (k : ℕ) (d : List Literal) → k < length cs → d ≡ slice_index_or cs k d → is_within n cs ≡ true → clause_within n d ≡ true
+clause-inside n [] k d h e w = absurd (omega (arith, h))
+clause-inside n (c ∷ cs) zero d h e w = ap (clause_within n) e ∙ (and_parts (clause_within n c) (is_within n cs) w).0
+clause-inside n (c ∷ cs) (suc k) d h e w = clause-inside n cs k d (omega (arith, h)) e (and_parts (clause_within n c) (is_within n cs) w).1

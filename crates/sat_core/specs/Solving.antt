@@ -9,9 +9,9 @@ use Rattle.lrat_check.specs.Derivations.{Proof, start_of, live_clause}
 use Rattle.sat_core.specs.declared.solver.Solver.TheInside.{Inside}
 use Rattle.sat_core.specs.Plain.{IsPlain, clauses_of}
 use Rattle.sat_core.specs.Propagation.{is_quiet}
-use Rattle.sat_core.specs.Watches.{IsConsistent}
 use Rattle.sat_core.specs.Explained.{SameClauses}
-use Rattle.sat_core.specs.Lists.{IsReady}
+use Rattle.sat_core.specs.declared.search.Search.{Search}
+use Rattle.sat_core.specs.Searching.{IsSearch}
 
 pub record Solving : Type 0 where
   pub derivation : Proof
@@ -27,15 +27,14 @@ EndsAt d trail None = is_quiet (clauses_of d) trail ≡ true
 EndsAt d trail (Some id) = (c : List Literal) × (live_clause d id ≡ Some c) × (reading_of trail c ≡ False)
 
 abbrev pub solving_of : Inside → Solving
-solving_of s = record { derivation = s.derivation; trail = s.trail }
+solving_of s = record { derivation = s.derivation; trail = s.search.trail }
 
--- what a solver's parts say together
-pub record IsSound (d : Proof) (stored : List (List Literal)) (lists : List (List ℕ)) (trail : List Literal) : Type 0 where
+-- what a derivation and a search say together
+pub record IsSound (d : Proof) (s : Search) : Type 0 where
   pub plain : IsPlain d
-  pub same : SameClauses (clauses_of d) stored
-  pub ready : IsReady stored lists trail 0
-  pub consistent : IsConsistent trail
+  pub same : SameClauses (clauses_of d) s.stored.items
+  pub search : IsSearch s
 
 -- sound, or memory ran out in the midst of a step
 abbrev pub IsSolver : Inside → Type 0
-IsSolver s = (s.broken ≡ true) ⊎ IsSound s.derivation s.stored.items s.lists.items s.trail
+IsSolver s = (s.broken ≡ true) ⊎ IsSound s.derivation s.search

@@ -1,13 +1,12 @@
 //! The solver.
-ghost use Rattle.std.specs.Prelude.{◌≡◌, IfOk};
+ghost use Rattle.std.specs.Prelude.{◌≡◌, ◌<◌, suc, length, IfOk};
 ghost use Rattle.sat_core.specs.Plain.{clauses_of};
 ghost use Rattle.sat_core.specs.Propagation.{Propagates};
 ghost use Rattle.sat_core.specs.Solving.{fresh, EndsAt};
 
-use crate::propagation::propagate_solver;
-use crate::storing::{empty_lists, store, widest};
-use crate::trail::Trail;
-use crate::watch_lists::{Places, Watches};
+use crate::propagation::propagate_search;
+use crate::search::Search;
+use crate::watch_lists::Watches;
 use knox_cnf::{Cnf, Lit};
 use lrat_check::Derivation;
 use std::alloc::{AllocError, Global};
@@ -19,9 +18,7 @@ use std::marker::Model;
 pub struct Solver {
     alloc: Global,
     derivation: Derivation,
-    stored: Vec<Watches>,
-    lists: Vec<Places>,
-    trail: Trail,
+    search: Search,
     broken: bool,
 }
 
@@ -30,9 +27,7 @@ impl Drop for Solver {
         let Solver {
             alloc: _alloc,
             derivation: _derivation,
-            stored: _stored,
-            lists: _lists,
-            trail: _trail,
+            search: _search,
             broken: _broken,
         } = self;
     }
@@ -48,21 +43,26 @@ impl Model for Solver {
     ghost invariant = { IsSolver };
 }
 
+/// The id of the clause at a place.
+fn id_at(stored: &[Watches], place: usize) -> u64
+    requires { place < length stored.now }
+    ensures { result ≡ suc place }
+{
+    let _count = stored.len();
+    place as u64 + 1
+}
+
 impl Solver {
     /// A solver of this formula, before any step. No literal is true.
     pub fn new(alloc: Global, cnf: Cnf) -> Result<Solver, AllocError>
         ensures { IfOk result (λ s. s ≡ fresh cnf) }
     {
         let derivation = Derivation::new(alloc, cnf)?;
-        let clauses = derivation.cnf().clauses.as_slice();
-        let mut lists = empty_lists(alloc, widest(clauses))?;
-        let stored = store(alloc, clauses, lists.as_mut_slice())?;
+        let search = Search::new(alloc, derivation.cnf().clauses.as_slice())?;
         Ok(Solver {
             alloc,
             derivation,
-            stored,
-            lists,
-            trail: Trail::new(alloc),
+            search,
             broken: false,
         })
     }
@@ -71,7 +71,7 @@ impl Solver {
     pub fn trail(&self) -> &[Lit]
         ensures { result.now ≡ self.now.trail }
     {
-        self.trail.literals()
+        self.search.trail.literals()
     }
 
     /// Makes the literals true that the clauses of formula and lemmas force, to the end. The answer is
@@ -85,14 +85,11 @@ impl Solver {
             return Err(AllocError);
         }
         self.broken = true;
-        let conflict = propagate_solver(
-            self.alloc,
-            &self.derivation,
-            self.stored.as_mut_slice(),
-            self.lists.as_mut_slice(),
-            &mut self.trail,
-        )?;
+        let conflict = propagate_search(self.alloc, &mut self.search)?;
         self.broken = false;
-        Ok(conflict)
+        let Some(place) = conflict else {
+            return Ok(None);
+        };
+        Ok(Some(id_at(self.search.stored.as_slice(), place)))
     }
 }

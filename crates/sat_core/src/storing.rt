@@ -1,5 +1,6 @@
 //! Clauses as they are stored, and the lists of their watches.
-ghost use Rattle.std.specs.Prelude.{◌≡◌, ◌<◌, ◌≤◌, ◌+◌, ◌*◌, ◌^◌, ℕ, [], length, IfOk, OnOk};
+ghost use Rattle.std.specs.Prelude.{◌≡◌, ◌<◌, ◌≤◌, ◌+◌, ◌*◌, ◌^◌, ℕ, [], length, IfOk, OnOk, true};
+ghost use Rattle.knox_cnf.specs.Formulas.{clause_within, is_within};
 ghost use Rattle.sat_core.specs.Chains.{clause_at};
 ghost use Rattle.sat_core.specs.Lists.{FitsLists};
 ghost use Rattle.sat_core.specs.Storing.{IsAbove, AddsOnce, IsSetOf, Fits, Lists, Stores};
@@ -33,12 +34,12 @@ fn set_of(alloc: Global, lits: &[Lit], marks: &mut Trail) -> Result<Watches, All
     for lit in lits {
         add_once(*lit, marks, &mut literals)?;
     }
-    marks.clear();
+    marks.truncate(0);
     Ok(Watches::new(literals))
 }
 
 /// Lists a clause at both of its watches.
-fn list_clause(lists: &mut [Places], lits: &[Lit], place: usize) -> Result<(), AllocError>
+pub fn list_clause(lists: &mut [Places], lits: &[Lit], place: usize) -> Result<(), AllocError>
     requires { Fits lits.now (length lists.old) }
     ensures { OnOk result (Lists lits.now place lists.old lists.new) }
 {
@@ -81,6 +82,7 @@ fn greater(a: u64, b: u64) -> u64
 fn widest_of(lits: &[Lit]) -> u64
     ensures above { IsAbove result lits.now }
     ensures small { result < 2 ^ 63 }
+    ensures least { (n : ℕ) → clause_within n lits.now ≡ true → result ≤ n }
 {
     let mut widest = 0;
     for lit in lits {
@@ -93,6 +95,7 @@ fn widest_of(lits: &[Lit]) -> u64
 pub fn widest(clauses: &[Clause]) -> u64
     ensures above { (k : ℕ) → IsAbove result (clause_at clauses.now k) }
     ensures small { result < 2 ^ 63 }
+    ensures least { (n : ℕ) → is_within n clauses.now ≡ true → result ≤ n }
 {
     let mut widest = 0;
     for clause in clauses {

@@ -1,18 +1,20 @@
 //! The literals that are true.
-ghost use Rattle.std.specs.Prelude.{◌≡◌, ◌<◌, ◌++◌, ◌∷◌, [], ℕ, length, slice_index_or, OnOk, OnErr, true, false};
+ghost use Rattle.std.specs.Prelude.{◌≡◌, ◌+◌, ◌<◌, ◌≤◌, ◌++◌, ◌∷◌, [], ℕ, length, take, slice_index_or, slice_set, OnOk, OnErr, MatchOption, true, false};
 ghost use Rattle.knox_cnf.specs.Literals.{literal, has};
-ghost use Rattle.lrat_check.specs.Marks.{index_of};
+ghost use Rattle.lrat_check.specs.Marks.{index_of, Extends};
+ghost use Rattle.sat_core.specs.Resolved.{IsFirst};
+ghost use Rattle.sat_core.specs.Tables.{AreOnce, Tells};
 
 use knox_cnf::Lit;
 use std::alloc::{AllocError, Global};
 use std::marker::Model;
 
-/// The literals that are true, in the order in which they became so. A table tells of each whether it
-/// is one of them.
+/// The literals that are true, in the order in which they became so, each once. A table tells of each
+/// at which place it is.
 #[derive(Drop)]
 pub struct Trail {
     literals: Vec<Lit>,
-    table: Vec<bool>,
+    places: Vec<usize>,
 }
 
 impl Model for Trail {
@@ -24,7 +26,7 @@ impl Model for Trail {
 
     ghost view = { λ t. t.literals.items };
 
-    ghost invariant = { λ t. Tells t.table.items t.literals.items };
+    ghost invariant = { λ t. Tells t.places.items t.literals.items };
 }
 
 /// The number of a literal.
@@ -40,14 +42,69 @@ fn index(lit: Lit) -> usize
 }
 
 /// Makes a table so long that it has a place, and leaves what it tells.
-fn cover(table: &mut Vec<bool>, place: usize) -> Result<(), AllocError>
+fn cover(table: &mut Vec<usize>, place: usize) -> Result<(), AllocError>
     ensures covered { OnOk result (place < length table.new.items) }
-    ensures same { (k : ℕ) → slice_index_or table.new.items k false ≡ slice_index_or table.old.items k false }
+    ensures same { (k : ℕ) → slice_index_or table.new.items k 0 ≡ slice_index_or table.old.items k 0 }
 {
     while table.len() <= place {
-        table.push(false)?;
+        table.push(0)?;
     }
     Ok(())
+}
+
+/// What a table has for a literal.
+fn entry(table: &[usize], lit: Lit) -> usize
+    ensures { result ≡ slice_index_or table.now (index_of lit) 0 }
+{
+    match table.get(index(lit)) {
+        Some(place) => *place,
+        None => 0,
+    }
+}
+
+/// Puts a number into a table.
+fn note(table: &mut Vec<usize>, at: usize, place: usize)
+    requires { at < length table.old.items }
+    ensures { table.new.items ≡ slice_set table.old.items at place }
+{
+    table[at] = place;
+}
+
+/// A literal has no place any more.
+fn forget(table: &mut Vec<usize>, lit: Lit)
+    ensures own { slice_index_or table.new.items (index_of lit) 0 ≡ 0 }
+    ensures others { (k : ℕ) → (k ≡ index_of lit → ⊥) → slice_index_or table.new.items k 0 ≡ slice_index_or table.old.items k 0 }
+{
+    let at = index(lit);
+    if at < table.len() {
+        note(table, at, 0);
+    }
+}
+
+/// The last literal isn't true any more.
+fn drop_last(literals: &mut Vec<Lit>, places: &mut Vec<usize>)
+    requires tells { Tells places.old.items literals.old.items }
+    requires some { 0 < length literals.old.items }
+    ensures tells { Tells places.new.items literals.new.items }
+    ensures shorter { length literals.new.items < length literals.old.items }
+    ensures longest { length literals.old.items ≤ length literals.new.items + 1 }
+    ensures front { Extends literals.new.items literals.old.items }
+{
+    if let Some(lit) = literals.pop() {
+        forget(places, lit);
+    }
+}
+
+/// Only the first literals stay true.
+fn shorten(literals: &mut Vec<Lit>, places: &mut Vec<usize>, count: usize)
+    requires tells { Tells places.old.items literals.old.items }
+    requires inside { count ≤ length literals.old.items }
+    ensures tells { Tells places.new.items literals.new.items }
+    ensures front { literals.new.items ≡ take count literals.old.items }
+{
+    while literals.len() > count {
+        drop_last(literals, places);
+    }
 }
 
 impl Trail {
@@ -57,7 +114,7 @@ impl Trail {
     {
         Trail {
             literals: Vec::new(alloc),
-            table: Vec::new(alloc),
+            places: Vec::new(alloc),
         }
     }
 
@@ -66,6 +123,13 @@ impl Trail {
         ensures { result ≡ length self.now }
     {
         self.literals.len()
+    }
+
+    /// No literal is true twice.
+    pub fn once(&self)
+        ensures { AreOnce self.now }
+    {
+        let _count = self.literals.len();
     }
 
     /// The literals.
@@ -83,37 +147,55 @@ impl Trail {
         self.literals[place]
     }
 
+    /// The place of a literal, if it is true.
+    pub fn place_of(&self, lit: Lit) -> Option<usize>
+        ensures { MatchOption result (has self.now lit ≡ false) (IsFirst self.now lit) }
+    {
+        let place = entry(self.places.as_slice(), lit);
+        if place == 0 { None } else { Some(place - 1) }
+    }
+
     /// Whether the literal is true.
     pub fn holds(&self, lit: Lit) -> bool
         ensures { result ≡ has self.now lit }
     {
-        match self.table.as_slice().get(index(lit)) {
-            Some(mark) => *mark,
-            None => false,
-        }
+        self.place_of(lit).is_some()
     }
 
     /// One more literal is true.
     pub fn push(&mut self, lit: Lit) -> Result<(), AllocError>
+        requires { has self.old lit ≡ false }
         ensures ok { OnOk result (self.new ≡ self.old ++ lit ∷ []) }
         ensures err { OnErr result (self.new ≡ self.old) }
     {
-        let place = index(lit);
-        cover(&mut self.table, place)?;
+        let at = index(lit);
+        cover(&mut self.places, at)?;
         self.literals.push(lit)?;
-        self.table[place] = true;
+        note(&mut self.places, at, self.literals.len());
         Ok(())
     }
 
-    /// No literal is true any more.
-    pub fn clear(&mut self)
-        ensures { self.new ≡ [] }
+    /// Only the first literals stay true.
+    pub fn truncate(&mut self, count: usize)
+        requires { count ≤ length self.old }
+        ensures { self.new ≡ take count self.old }
     {
-        while let Some(lit) = self.literals.pop() {
-            let place = index(lit);
-            if place < self.table.len() {
-                self.table[place] = false;
-            }
-        }
+        shorten(&mut self.literals, &mut self.places, count);
     }
+}
+
+/// One more literal is true, and a clause at this place is why.
+pub fn force(
+    trail: &mut Trail,
+    reasons: &mut Vec<usize>,
+    lit: Lit,
+    reason: usize,
+) -> Result<(), AllocError>
+    requires { has trail.old lit ≡ false }
+    ensures trail { OnOk result (trail.new ≡ trail.old ++ lit ∷ []) }
+    ensures reasons { OnOk result (reasons.new.items ≡ reasons.old.items ++ reason ∷ []) }
+{
+    trail.push(lit)?;
+    reasons.push(reason)?;
+    Ok(())
 }

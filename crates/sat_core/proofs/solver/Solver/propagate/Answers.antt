@@ -1,23 +1,38 @@
-use Rattle.std.proofs.Common.{◌∙◌, ap, sym, inr, length}
-use Rattle.std.specs.Vec.{with_items}
-use Rattle.std.proofs.lemmas.List.{with_items_is}
-use Rattle.sat_core.proofs.PropagatedLemmas.{sound-given, sound-put, forced-view, ends-view}
+use Rattle.std.proofs.Common.{subst, None, Some}
+use Rattle.sat_core.specs.Plain.{clauses_of}
+use Rattle.sat_core.specs.Storing.{Finishes}
+use Rattle.sat_core.proofs.PropagatedLemmas.{same-then, search-forced, search-quiet, search-false, forced-view, ends-view}
+use Rattle.sat_core.proofs.SearchLemmas.{sound-of}
 use Rattle.sat_core.proofs.solver.Solver.propagate.Goals as goal
 
-pub propagate_solver-requires : goal.propagate_solver-requires
-propagate_solver-requires c =
-    sound-given c.self.inside.derivation c.self.inside.stored.items c.as_mut_slice.result.now c.self.inside.lists.items c.as_mut_slice-2.result.now c.self.inside.trail c.self.inside.broken
-    c.if-self.false c.self.invariant c.as_mut_slice.ensures.value c.as_mut_slice-2.ensures.value
+pub propagate_search-requires : goal.propagate_search-requires
+propagate_search-requires c = (sound-of c.self.inside.broken c.self.inside.derivation c.self.inside.search c.if-self.false c.self.invariant).search
 
-pub invariant_of-self-2 : goal.invariant_of-self-2
-invariant_of-self-2 c =
-    inr (sound-put c.self.inside.derivation (with_items c.self.inside.stored c.propagate_solver.new.stored).items c.propagate_solver.new.stored (with_items c.self.inside.lists c.propagate_solver.new.lists).items c.propagate_solver.new.lists c.propagate_solver.new.trail
-    (with_items_is c.self.inside.stored c.propagate_solver.new.stored (c.in_ok-conflict.ensures.long ∙ ap length c.as_mut_slice.ensures.value ∙ sym c.self.inside.stored.ok.0))
-    (with_items_is c.self.inside.lists c.propagate_solver.new.lists (c.in_ok-conflict.ensures.wide ∙ ap length c.as_mut_slice-2.ensures.value ∙ sym c.self.inside.lists.ok.0))
-    c.in_ok-conflict.ensures.sound)
+pub returns-in_default-clause-appended : goal.returns-in_default-clause-appended
+returns-in_default-clause-appended c =
+    let s = sound-of c.self.inside.broken c.self.inside.derivation c.self.inside.search c.if-self.false c.self.invariant in
+    forced-view c.args.self.now c.self.inside.derivation c.self.inside.search.trail c.propagate_search.new.search.trail c.self.view_is
+    (search-forced (clauses_of c.self.inside.derivation) c.self.inside.search.stored.items c.self.inside.search.trail c.propagate_search.new.search.trail s.same c.in_ok-conflict.ensures.appends)
+
+pub returns-in_default-clause-ends : goal.returns-in_default-clause-ends
+returns-in_default-clause-ends c =
+    let s = sound-of c.self.inside.broken c.self.inside.derivation c.self.inside.search c.if-self.false c.self.invariant in
+    let k = c.in_ok-conflict.ensures.search in
+    ends-view c.args.self.now c.self.inside.derivation c.self.inside.search.trail c.propagate_search.new.search.trail None c.self.view_is
+    (search-quiet c.self.inside.derivation c.propagate_search.new.search.stored.items c.propagate_search.new.search.lists.items c.propagate_search.new.search.trail c.propagate_search.new.search.done
+    (same-then (clauses_of c.self.inside.derivation) c.self.inside.search.stored.items c.propagate_search.new.search.stored.items s.same c.in_ok-conflict.ensures.same) k.ready k.consistent
+    (subst (Finishes c.propagate_search.new.search.stored.items c.propagate_search.new.search.trail) c.in_default.is c.in_ok-conflict.ensures.finishes))
 
 pub returns-clause-appended : goal.returns-clause-appended
-returns-clause-appended c = forced-view c.args.self.now c.self.inside.derivation c.self.inside.trail _ c.self.view_is c.in_ok-conflict.ensures.forced
+returns-clause-appended c =
+    let s = sound-of c.self.inside.broken c.self.inside.derivation c.self.inside.search c.if-self.false c.self.invariant in
+    forced-view c.args.self.now c.self.inside.derivation c.self.inside.search.trail c.propagate_search.new.search.trail c.self.view_is
+    (search-forced (clauses_of c.self.inside.derivation) c.self.inside.search.stored.items c.self.inside.search.trail c.propagate_search.new.search.trail s.same c.in_ok-conflict.ensures.appends)
 
 pub returns-clause-ends : goal.returns-clause-ends
-returns-clause-ends c = ends-view c.args.self.now c.self.inside.derivation c.self.inside.trail c.propagate_solver.new.trail c.in_ok-conflict.conflict c.self.view_is c.in_ok-conflict.ensures.ends
+returns-clause-ends c =
+    let s = sound-of c.self.inside.broken c.self.inside.derivation c.self.inside.search c.if-self.false c.self.invariant in
+    ends-view c.args.self.now c.self.inside.derivation c.self.inside.search.trail c.propagate_search.new.search.trail (Some c.id_at.result) c.self.view_is
+    (search-false c.self.inside.derivation c.propagate_search.new.search.stored.items c.propagate_search.new.search.trail c.in-Some.place c.id_at.result s.plain
+    (same-then (clauses_of c.self.inside.derivation) c.self.inside.search.stored.items c.propagate_search.new.search.stored.items s.same c.in_ok-conflict.ensures.same) c.id_at.ensures
+    (subst (Finishes c.propagate_search.new.search.stored.items c.propagate_search.new.search.trail) c.in-Some.is c.in_ok-conflict.ensures.finishes))
