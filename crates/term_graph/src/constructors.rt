@@ -3,6 +3,7 @@
 ghost use Rattle.std.specs.Prelude.{◌≡◌, ◌+◌, ◌<◌, ◌≤◌, length, IfOk, IsTrue, IfSome, true, []};
 ghost use Rattle.std.specs.Option.{ForSome};
 ghost use Rattle.knox_words.specs.Ops.{op1_value, op2_or, fits2_of, sext_or, uext_or, slice_or};
+ghost use Rattle.knox_words.specs.declared.op.Op2.TheVariants.{Sll};
 ghost use Rattle.term_graph.specs.Value.{value, width_of, ite_or};
 ghost use Rattle.term_graph.specs.Kept.{Keeps, Gives, IsAlways};
 ghost use Rattle.term_graph.specs.Rules.{ruled, Becomes, Chooses, IsChoice, Narrows, narrow_value};
@@ -36,7 +37,7 @@ impl Graph {
 
     /// The word that a term is under each valuation, where its node is one.
     #[tactic(auto, using(crate::proofs::BuiltLemmas::wording))]
-    fn constant(&self, t: Term) -> Option<Word>
+    pub(crate) fn constant(&self, t: Term) -> Option<Word>
         requires { t < length self.now }
         ensures { IfSome result (IsAlways self.now t) }
     {
@@ -60,9 +61,9 @@ impl Graph {
         }
     }
 
-    /// An operator on a term. `Err` is want of memory.
+    /// An operator on a term, where it isn't arithmetic.
     #[tactic(auto, using(crate::proofs::FoldLemmas::folding))]
-    pub fn un(&mut self, o: Op1, a: Term) -> Result<Term, AllocError>
+    pub(crate) fn plain_un(&mut self, o: Op1, a: Term) -> Result<Term, AllocError>
         requires { a < length self.old }
         ensures kept { Keeps self.old self.new }
         ensures value { IfOk result (λ t. Gives self.new t (λ v. op1_value o (value v self.old a))) }
@@ -86,7 +87,7 @@ impl Graph {
     {
         match rule {
             Rule::Itself => Ok(t),
-            Rule::Turned => self.un(Op1::Not, t),
+            Rule::Turned => self.plain_un(Op1::Not, t),
             Rule::Word(w) => self.word(w),
         }
     }
@@ -134,7 +135,7 @@ impl Graph {
 
     /// An operator on two terms in this order.
     #[tactic(auto, using(crate::proofs::FoldLemmas::folding, crate::proofs::BecomeLemmas::becoming))]
-    fn joined(&mut self, o: Op2, a: Term, b: Term) -> Result<Term, AllocError>
+    pub(crate) fn joined(&mut self, o: Op2, a: Term, b: Term) -> Result<Term, AllocError>
         requires first { a < length self.old }
         requires second { b < length self.old }
         requires fits { IsTrue (fits2_of o (width_of self.old a) (width_of self.old b)) }
@@ -210,7 +211,7 @@ impl Graph {
 
     /// Whether two operands of a commutative operator are to be turned: a word goes first, and else
     /// the older term.
-    fn are_turned(&self, a: Term, b: Term) -> bool
+    pub(crate) fn are_turned(&self, a: Term, b: Term) -> bool
         requires first { a < length self.now }
         requires second { b < length self.now }
     {
@@ -221,9 +222,9 @@ impl Graph {
         }
     }
 
-    /// An operator on two terms of widths that it takes. `Err` is want of memory.
+    /// An operator on two terms, where it isn't arithmetic.
     #[tactic(auto, using(crate::proofs::BecomeLemmas::turning))]
-    pub fn bin(&mut self, o: Op2, a: Term, b: Term) -> Result<Term, AllocError>
+    pub(crate) fn plain_bin(&mut self, o: Op2, a: Term, b: Term) -> Result<Term, AllocError>
         requires first { a < length self.old }
         requires second { b < length self.old }
         requires fits { IsTrue (fits2_of o (width_of self.old a) (width_of self.old b)) }
@@ -235,6 +236,52 @@ impl Graph {
             return Ok(t);
         }
         self.ordered(o, a, b)
+    }
+
+    /// An operator on a term. `Err` is want of memory.
+    pub fn un(&mut self, o: Op1, a: Term) -> Result<Term, AllocError>
+        requires { a < length self.old }
+        ensures kept { Keeps self.old self.new }
+        ensures value { IfOk result (λ t. Gives self.new t (λ v. op1_value o (value v self.old a))) }
+    {
+        match o {
+            Op1::Neg => self.negated(a),
+            Op1::Inc => self.successor(a),
+            Op1::Dec => self.predecessor(a),
+            _ => self.plain_un(o, a),
+        }
+    }
+
+    /// A term shifted to the left by another.
+    fn left_shift(&mut self, a: Term, b: Term) -> Result<Term, AllocError>
+        requires first { a < length self.old }
+        requires second { b < length self.old }
+        requires same { width_of self.old a ≡ width_of self.old b }
+        ensures kept { Keeps self.old self.new }
+        ensures value { IfOk result (λ t. Gives self.new t (λ v. op2_or Sll (value v self.old a) (value v self.old b))) }
+    {
+        if let Some(c) = self.constant(b) {
+            let t = self.shifted(a, c)?;
+            return Ok(t);
+        }
+        self.plain_bin(Op2::Sll, a, b)
+    }
+
+    /// An operator on two terms of widths that it takes. `Err` is want of memory.
+    pub fn bin(&mut self, o: Op2, a: Term, b: Term) -> Result<Term, AllocError>
+        requires first { a < length self.old }
+        requires second { b < length self.old }
+        requires fits { IsTrue (fits2_of o (width_of self.old a) (width_of self.old b)) }
+        ensures kept { Keeps self.old self.new }
+        ensures value { IfOk result (λ t. Gives self.new t (λ v. op2_or o (value v self.old a) (value v self.old b))) }
+    {
+        match o {
+            Op2::Add => self.sum(a, b),
+            Op2::Sub => self.difference(a, b),
+            Op2::Mul => self.multiplied(a, b),
+            Op2::Sll => self.left_shift(a, b),
+            _ => self.plain_bin(o, a, b),
+        }
     }
 
     /// A term's number, read with a sign, in `n` bits more. `Err` is want of memory.

@@ -1,7 +1,7 @@
 use Rattle.std.proofs.Common.{rules, ◌≡◌, true}
 use Rattle.term_graph.specs.Rules.{is_commutative}
 use Rattle.term_graph.proofs.BecomeLemmas.{gives-commuted}
-use Rattle.term_graph.proofs.graph.Graph.bin.Goals as goal
+use Rattle.term_graph.proofs.graph.Graph.plain_bin.Goals as goal
 
 pub returns-then-are_turned-clause-value : goal.returns-then-are_turned-clause-value
 returns-then-are_turned-clause-value c =
