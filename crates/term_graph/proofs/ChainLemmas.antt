@@ -10,6 +10,7 @@ use Rattle.knox_words.specs.declared.op.Op1.TheVariants.{Not, Inc, Dec, Neg}
 use Rattle.knox_words.specs.declared.op.Op2.{Op2}
 use Rattle.knox_words.specs.declared.op.Op2.TheVariants.{Add, Sub, Mul, Sll}
 use Rattle.knox_words.proofs.Results.{op2_or-value}
+use Rattle.knox_words.proofs.Results.{op1_value-IsWord}
 use Rattle.term_graph.specs.declared.node.Node.{Node}
 use Rattle.term_graph.specs.declared.node.Node.TheVariants as node
 use Rattle.term_graph.specs.declared.chain.Chain.{Chain}
@@ -22,8 +23,8 @@ use Rattle.term_graph.proofs.ValueLemmas.{value-node, value-taken}
 use Rattle.term_graph.proofs.BuiltLemmas.{word_or-same}
 use Rattle.term_graph.proofs.WidthLemmas.{value-width, value-IsWord, op2_or-IsWord}
 use Rattle.term_graph.proofs.FoldLemmas.{gives-same, keeps-on, keeps-within, keeps-width, undone-value}
-use Rattle.term_graph.proofs.RuleLemmas.{or-commuted}
-use Rattle.term_graph.proofs.RingLemmas.{op-width, op-turn, op-assoc, op-four, op-spread, op-spread_last, op-neutral, op-negative, op-opposite, op-less, op-next, op-previous, op-shifted}
+use Rattle.term_graph.proofs.RuleLemmas.{word-is, or-commuted}
+use Rattle.term_graph.proofs.RingLemmas.{op-width, op-turn, op-assoc, op-four, op-spread, op-spread_last, op-neutral, op-negative, op-opposite, op-less, op-next, op-previous, op-shifted, op-complement}
 
 linked : (k : Chain) (o : Op2) → links k o ≡ true → o ≡ operator k
 linked Sum Add e = refl
@@ -357,3 +358,46 @@ made-alike old mid a f c keeps h same g = ap (λ (b : Bits). b.width) (g.gives [
 
 pub keeps-through : (a b c d : List Node) → Keeps a b → Keeps b c → Keeps c d → Keeps a d
 keeps-through a b c d p q r = keeps-on a b d p (keeps-on b c d q r)
+
+-- complements
+
+pub gives-complemented : (old mid new : List Node) (y n t : ℕ) → Gives mid n (λ v. op1_value Neg (value v old y)) → Gives new t (λ v. op1_value Dec (value v mid n)) → Gives new t (λ v. op1_value Not (value v old y))
+gives-complemented old mid new y n t made g = gives-same new t _ _ g (λ v.
+    ap (op1_value Dec) (made.gives v) ∙ op-complement (width_of old y) (value v old y) (value-IsWord v old y) (value-width v old y))
+
+pub operand-sum : (ns : List Node) (t f n y : ℕ) (c : Bits) → Splits ns Sum t f n → IsAlways ns f c → (op1_value Not c).value ≡ 0 → IsOperand ns Neg n y → IsOperand ns Not t y
+operand-sum ns t f n y c parts is ones o =
+    let word : IsWord c = subst IsWord (is.each []) (value-IsWord [] ns f) in
+    let below : c.value < 2 ^ c.width = word.fits in
+    let width : c.width ≡ width_of ns y = sym (ap (λ (b : Bits). b.width) (is.each [])) ∙ (parts.first_width ∙ (sym parts.last_width ∙ sym o.width)) in
+    let all : c ≡ bits (width_of ns y) (2 ^ width_of ns y - 1) = word-is c (width_of ns y) (2 ^ width_of ns y - 1) width (let top : c.value ≡ 2 ^ c.width - 1 = omega arith in top ∙ ap (λ (k : ℕ). 2 ^ k - 1) width) in
+    record {
+      within = o.within;
+      width = o.width ∙ parts.last_width;
+      is = λ v.
+          parts.is v
+          ∙ ((λ i. op2_or Add ((is.each v ∙ all) i) (o.is v i))
+          ∙ (sym (op-previous (width_of ns y) (op1_value Neg (value v ns y)) (op1_value-IsWord Neg (value v ns y) (value-IsWord v ns y)) (value-width v ns y))
+          ∙ op-complement (width_of ns y) (value v ns y) (value-IsWord v ns y) (value-width v ns y)));
+    }
+
+pub gives-operand : (old new : List Node) (o : Op1) (t y s : ℕ) → IsOperand old o t y → Gives new s (λ v. op1_value o (value v old y)) → Gives new s (λ v. value v old t)
+gives-operand old new o t y s is g = gives-same new s _ _ g (λ v. sym (is.is v))
+
+pub gives-itself : (ns : List Node) (t : ℕ) → t < length ns → Gives ns t (λ v. value v ns t)
+gives-itself ns t h = record { within = h; gives = λ v. refl }
+
+-- operands that were opened
+pub gives-opened : (old mid far new : List Node) (o : Op2) (a b x y t : ℕ) → Keeps old mid → Keeps mid far → b < length old → Gives mid x (λ v. value v old a) → Gives far y (λ v. value v mid b) → Gives new t (λ v. op2_or o (value v far x) (value v far y)) → Gives new t (λ v. op2_or o (value v old a) (value v old b))
+gives-opened old mid far new o a b x y t first second h gx gy g = gives-same new t _ _ g (λ v.
+    (λ i. op2_or o ((second.values v x gx.within ∙ gx.gives v) i) ((gy.gives v ∙ first.values v b h) i)))
+
+pub fits-opened : (old mid far : List Node) (o : Op2) (a b x y : ℕ) → Keeps old mid → Keeps mid far → b < length old → Gives mid x (λ v. value v old a) → Gives far y (λ v. value v mid b) → fits2_of o (width_of old a) (width_of old b) ≡ true → fits2_of o (width_of far x) (width_of far y) ≡ true
+fits-opened old mid far o a b x y first second h gx gy e =
+    (λ i. fits2_of o ((second.values [] x gx.within ∙ gx.gives []) i).width ((gy.gives [] ∙ first.values [] b h) i).width) ∙ e
+
+pub gives-opened_one : (old mid new : List Node) (o : Op1) (a x t : ℕ) → Gives mid x (λ v. value v old a) → Gives new t (λ v. op1_value o (value v mid x)) → Gives new t (λ v. op1_value o (value v old a))
+gives-opened_one old mid new o a x t made g = gives-same new t _ _ g (λ v. ap (op1_value o) (made.gives v))
+
+pub gives-closed : (old mid new : List Node) (f : List Bits → Bits) (t s : ℕ) → Gives mid t f → Gives new s (λ v. value v mid t) → Gives new s f
+gives-closed old mid new f t s made g = gives-same new s _ f g made.gives

@@ -4,7 +4,7 @@ use Rattle.std.proofs.lemmas.Nat.{mul-mod_first, mul-mod_second, pow_pos}
 use Rattle.std.proofs.Math.Nat.{one-mul, mod_self, mod-eq_of_lt, mod-add-mod, add-mod-mod, add-mul, mul_assoc, mul_comm, add_comm, add-mul-mod_self_right}
 use Rattle.knox_words.specs.Bits.{Bits, bits, IsWord}
 use Rattle.knox_words.specs.Ops.{op1_value, op2_or}
-use Rattle.knox_words.specs.declared.op.Op1.TheVariants.{Neg, Inc, Dec}
+use Rattle.knox_words.specs.declared.op.Op1.TheVariants.{Not, Neg, Inc, Dec}
 use Rattle.knox_words.specs.declared.op.Op2.TheVariants as op2
 use Rattle.knox_words.proofs.Results.{op2_or-value}
 use Rattle.term_graph.specs.declared.chain.Chain.{Chain}
@@ -166,3 +166,12 @@ module _ (w : ℕ) where
           let some : 0 < 2 ^ w = pow_pos w in
           let none : 0 * a.value < 2 ^ w = omega arith in
           mod-eq_of_lt none ∙ omega arith
+
+  pub op-complement : (a : Bits) → IsWord a → a.width ≡ w → op1_value Dec (op1_value Neg a) ≡ op1_value Not a
+  op-complement a is p = ap (bits a.width) (turned (2 ^ a.width) a.value is.fits)
+    where
+      turned : (m x : ℕ) → x < m → ((m - x) % m + (m - 1)) % m ≡ m - 1 - x
+      turned m x h =
+          let sum : m - x + (m - 1) ≡ m - 1 - x + 1 * m = omega arith in
+          let less : m - 1 - x < m = omega arith in
+          mod-add-mod (m - x) m (m - 1) ∙ (ap (λ (n : ℕ). n % m) sum ∙ (add-mul-mod_self_right (m - 1 - x) 1 m ∙ mod-eq_of_lt less))

@@ -2,11 +2,11 @@
 //! chain of terms, both in order of making, words first. What would be longer stays as it is.
 ghost use Rattle.std.specs.Prelude.{◌≡◌, ◌+◌, ◌<◌, ◌≤◌, length, IfOk, IfSome};
 ghost use Rattle.knox_words.specs.Ops.{op1_value, op2_or};
-ghost use Rattle.knox_words.specs.declared.op.Op1.TheVariants.{Inc, Dec, Neg};
+ghost use Rattle.knox_words.specs.declared.op.Op1.TheVariants.{Not, Inc, Dec, Neg};
 ghost use Rattle.knox_words.specs.declared.op.Op2.TheVariants.{Add, Sub, Mul, Sll};
 ghost use Rattle.term_graph.specs.Value.{value, width_of};
 ghost use Rattle.term_graph.specs.Kept.{Keeps, Gives};
-ghost use Rattle.term_graph.specs.Chains.{operator, AreUnits, AreAlike, Steps};
+ghost use Rattle.term_graph.specs.Chains.{operator, AreUnits, AreAlike, IsOperand, Steps};
 
 use crate::chain::{Chain, Units, links, operator, unit};
 use crate::graph::Graph;
@@ -376,6 +376,61 @@ impl Graph {
     {
         let n = self.negated(b)?;
         let t = self.sum(a, n)?;
+        Ok(t)
+    }
+
+    /// The complement of a term, as its negative less 1.
+    pub(crate) fn complemented(&mut self, y: Term) -> Result<Term, AllocError>
+        requires { y < length self.old }
+        ensures kept { Keeps self.old self.new }
+        ensures value { IfOk result (λ t. Gives self.new t (λ v. op1_value Not (value v self.old y))) }
+    {
+        let n = self.negated(y)?;
+        let t = self.predecessor(n)?;
+        Ok(t)
+    }
+
+    /// A term, as a sum where it is a complement.
+    pub(crate) fn opened(&mut self, a: Term) -> Result<Term, AllocError>
+        requires { a < length self.old }
+        ensures kept { Keeps self.old self.new }
+        ensures value { IfOk result (λ t. Gives self.new t (λ v. value v self.old a)) }
+    {
+        if let Some(y) = self.operand(Op1::Not, a) {
+            let t = self.complemented(y)?;
+            return Ok(t);
+        }
+        Ok(a)
+    }
+
+    /// The term of which a sum is the complement, where it is a negative less 1.
+    fn complement_in(&self, t: Term) -> Option<Term>
+        requires { t < length self.now }
+        ensures { IfSome result (IsOperand self.now Not t) }
+    {
+        match self.node(t) {
+            Node::Bin(o, c, n) if links(Chain::Sum, o) => {
+                let w = self.constant(c)?;
+                if op1(Op1::Not, w).value() != 0 {
+                    return None;
+                }
+                let y = self.operand(Op1::Neg, n)?;
+                Some(y)
+            }
+            _ => None,
+        }
+    }
+
+    /// A term, as a complement where it is a negative less 1.
+    pub(crate) fn closed(&mut self, t: Term) -> Result<Term, AllocError>
+        requires { t < length self.old }
+        ensures kept { Keeps self.old self.new }
+        ensures value { IfOk result (λ s. Gives self.new s (λ v. value v self.old t)) }
+    {
+        if let Some(y) = self.complement_in(t) {
+            let s = self.plain_un(Op1::Not, y)?;
+            return Ok(s);
+        }
         Ok(t)
     }
 

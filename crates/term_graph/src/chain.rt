@@ -55,7 +55,7 @@ pub(crate) fn unit(k: Chain, units: &Units) -> Term
 }
 
 /// Whether two operators are both the complement or both the negative.
-fn same_sign(o: Op1, p: Op1) -> bool
+pub(crate) fn same_sign(o: Op1, p: Op1) -> bool
     ensures { result ≡ same_sign o p }
 {
     match (o, p) {

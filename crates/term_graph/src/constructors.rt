@@ -8,6 +8,7 @@ ghost use Rattle.term_graph.specs.Value.{value, width_of, ite_or};
 ghost use Rattle.term_graph.specs.Kept.{Keeps, Gives, IsAlways};
 ghost use Rattle.term_graph.specs.Rules.{ruled, Becomes, Chooses, IsChoice, Narrows, narrow_value};
 
+use crate::chain::{Chain, links, same_sign};
 use crate::graph::Graph;
 use crate::node::{Node, Term};
 use crate::rules::{
@@ -238,8 +239,22 @@ impl Graph {
         self.ordered(o, a, b)
     }
 
-    /// An operator on a term. `Err` is want of memory.
-    pub fn un(&mut self, o: Op1, a: Term) -> Result<Term, AllocError>
+    /// Whether a term of more than one bit is a sum, a product or a negative.
+    fn is_number(&self, a: Term) -> bool
+        requires { a < length self.now }
+    {
+        if self.width(a) == 1 {
+            return false;
+        }
+        match self.node(a) {
+            Node::Bin(o, _, _) => links(Chain::Sum, o) || links(Chain::Product, o),
+            Node::Un(o, _) => same_sign(Op1::Neg, o),
+            _ => false,
+        }
+    }
+
+    /// An operator on a term, where it is arithmetic.
+    fn signed(&mut self, o: Op1, a: Term) -> Result<Term, AllocError>
         requires { a < length self.old }
         ensures kept { Keeps self.old self.new }
         ensures value { IfOk result (λ t. Gives self.new t (λ v. op1_value o (value v self.old a))) }
@@ -248,8 +263,41 @@ impl Graph {
             Op1::Neg => self.negated(a),
             Op1::Inc => self.successor(a),
             Op1::Dec => self.predecessor(a),
+            Op1::Not => self.complemented(a),
             _ => self.plain_un(o, a),
         }
+    }
+
+    /// The same, where the term may be a complement.
+    #[tactic(auto, using(crate::proofs::FoldLemmas::keeping))]
+    fn signed_open(&mut self, o: Op1, a: Term) -> Result<Term, AllocError>
+        requires { a < length self.old }
+        ensures kept { Keeps self.old self.new }
+        ensures value { IfOk result (λ t. Gives self.new t (λ v. op1_value o (value v self.old a))) }
+    {
+        let x = self.opened(a)?;
+        let t = self.signed(o, x)?;
+        Ok(t)
+    }
+
+    /// An operator on a term. `Err` is want of memory.
+    #[tactic(auto, using(crate::proofs::FoldLemmas::keeping))]
+    pub fn un(&mut self, o: Op1, a: Term) -> Result<Term, AllocError>
+        requires { a < length self.old }
+        ensures kept { Keeps self.old self.new }
+        ensures value { IfOk result (λ t. Gives self.new t (λ v. op1_value o (value v self.old a))) }
+    {
+        let arithmetic = match o {
+            Op1::Neg | Op1::Inc | Op1::Dec => true,
+            Op1::Not => self.is_number(a),
+            _ => false,
+        };
+        if !arithmetic {
+            return self.plain_un(o, a);
+        }
+        let t = self.signed_open(o, a)?;
+        let s = self.closed(t)?;
+        Ok(s)
     }
 
     /// A term shifted to the left by another.
@@ -267,8 +315,8 @@ impl Graph {
         self.plain_bin(Op2::Sll, a, b)
     }
 
-    /// An operator on two terms of widths that it takes. `Err` is want of memory.
-    pub fn bin(&mut self, o: Op2, a: Term, b: Term) -> Result<Term, AllocError>
+    /// An operator on two terms, where it is arithmetic.
+    fn calculated(&mut self, o: Op2, a: Term, b: Term) -> Result<Term, AllocError>
         requires first { a < length self.old }
         requires second { b < length self.old }
         requires fits { IsTrue (fits2_of o (width_of self.old a) (width_of self.old b)) }
@@ -282,6 +330,49 @@ impl Graph {
             Op2::Sll => self.left_shift(a, b),
             _ => self.plain_bin(o, a, b),
         }
+    }
+
+    /// Whether an operator on a term and another is arithmetic.
+    fn is_arithmetic(&self, o: Op2, b: Term) -> bool
+        requires { b < length self.now }
+    {
+        match o {
+            Op2::Add | Op2::Sub | Op2::Mul => true,
+            Op2::Sll => self.constant(b).is_some(),
+            _ => false,
+        }
+    }
+
+    /// The same, where the terms may be complements.
+    #[tactic(auto, using(crate::proofs::FoldLemmas::keeping))]
+    fn calculated_open(&mut self, o: Op2, a: Term, b: Term) -> Result<Term, AllocError>
+        requires first { a < length self.old }
+        requires second { b < length self.old }
+        requires fits { IsTrue (fits2_of o (width_of self.old a) (width_of self.old b)) }
+        ensures kept { Keeps self.old self.new }
+        ensures value { IfOk result (λ t. Gives self.new t (λ v. op2_or o (value v self.old a) (value v self.old b))) }
+    {
+        let x = self.opened(a)?;
+        let y = self.opened(b)?;
+        let t = self.calculated(o, x, y)?;
+        Ok(t)
+    }
+
+    /// An operator on two terms of widths that it takes. `Err` is want of memory.
+    #[tactic(auto, using(crate::proofs::FoldLemmas::keeping))]
+    pub fn bin(&mut self, o: Op2, a: Term, b: Term) -> Result<Term, AllocError>
+        requires first { a < length self.old }
+        requires second { b < length self.old }
+        requires fits { IsTrue (fits2_of o (width_of self.old a) (width_of self.old b)) }
+        ensures kept { Keeps self.old self.new }
+        ensures value { IfOk result (λ t. Gives self.new t (λ v. op2_or o (value v self.old a) (value v self.old b))) }
+    {
+        if !self.is_arithmetic(o, b) {
+            return self.plain_bin(o, a, b);
+        }
+        let t = self.calculated_open(o, a, b)?;
+        let s = self.closed(t)?;
+        Ok(s)
     }
 
     /// A term's number, read with a sign, in `n` bits more. `Err` is want of memory.
