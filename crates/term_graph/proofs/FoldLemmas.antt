@@ -165,7 +165,7 @@ whole_turn a b c m h e =
     let sum : a + b + c ≡ a + 1 * m = omega arith in
     mod-add-mod (a + b) m c ∙ (ap (λ (n : ℕ). n % m) sum ∙ (add-mul-mod_self_right a 1 m ∙ mod-eq_of_lt h))
 
-undone-value : (o i : Op1) (x : Bits) → IsWord x → undoes o i ≡ true → op1_value o (op1_value i x) ≡ x
+pub undone-value : (o i : Op1) (x : Bits) → IsWord x → undoes o i ≡ true → op1_value o (op1_value i x) ≡ x
 undone-value Not Not x is u =
     let below : x.value < 2 ^ x.width = is.fits in
     let back : 2 ^ x.width - 1 - (2 ^ x.width - 1 - x.value) ≡ x.value = omega arith in

@@ -8,3 +8,5 @@ pub mod ExtendLemmas
 pub mod BecomeLemmas
 pub mod ChoiceLemmas
 pub mod NestLemmas
+pub mod RingLemmas
+pub mod ChainLemmas

@@ -50,7 +50,7 @@ op2_or-width o a b = by_test (fits2_of o a.width b.width)
     by_test true = op2_value-width o a b
     by_test false = refl
 
-op2_or-IsWord : (o : Op2) (a b : Bits) → IsWord a → IsWord b → IsWord (op2_or o a b)
+pub op2_or-IsWord : (o : Op2) (a b : Bits) → IsWord a → IsWord b → IsWord (op2_or o a b)
 op2_or-IsWord o a b p q = by_test (fits2_of o a.width b.width) refl
   where
     by_test : (t : Bool) → fits2_of o a.width b.width ≡ t → IsWord (if t then op2_value o a b else bits 1 0)

@@ -3,10 +3,12 @@
 ghost use Rattle.std.specs.Prelude.{◌≡◌, ◌+◌, ◌<◌, ◌≤◌, length, IfOk, IsTrue, IfSome, true, []};
 ghost use Rattle.std.specs.Option.{ForSome};
 ghost use Rattle.knox_words.specs.Ops.{op1_value, op2_or, fits2_of, sext_or, uext_or, slice_or};
+ghost use Rattle.knox_words.specs.declared.op.Op2.TheVariants.{Sll};
 ghost use Rattle.term_graph.specs.Value.{value, width_of, ite_or};
 ghost use Rattle.term_graph.specs.Kept.{Keeps, Gives, IsAlways};
 ghost use Rattle.term_graph.specs.Rules.{ruled, Becomes, Chooses, IsChoice, Narrows, narrow_value};
 
+use crate::chain::{Chain, links, same_sign};
 use crate::graph::Graph;
 use crate::node::{Node, Term};
 use crate::rules::{
@@ -36,7 +38,7 @@ impl Graph {
 
     /// The word that a term is under each valuation, where its node is one.
     #[tactic(auto, using(crate::proofs::BuiltLemmas::wording))]
-    fn constant(&self, t: Term) -> Option<Word>
+    pub(crate) fn constant(&self, t: Term) -> Option<Word>
         requires { t < length self.now }
         ensures { IfSome result (IsAlways self.now t) }
     {
@@ -60,9 +62,9 @@ impl Graph {
         }
     }
 
-    /// An operator on a term. `Err` is want of memory.
+    /// An operator on a term, where it isn't arithmetic.
     #[tactic(auto, using(crate::proofs::FoldLemmas::folding))]
-    pub fn un(&mut self, o: Op1, a: Term) -> Result<Term, AllocError>
+    pub(crate) fn plain_un(&mut self, o: Op1, a: Term) -> Result<Term, AllocError>
         requires { a < length self.old }
         ensures kept { Keeps self.old self.new }
         ensures value { IfOk result (λ t. Gives self.new t (λ v. op1_value o (value v self.old a))) }
@@ -86,7 +88,7 @@ impl Graph {
     {
         match rule {
             Rule::Itself => Ok(t),
-            Rule::Turned => self.un(Op1::Not, t),
+            Rule::Turned => self.plain_un(Op1::Not, t),
             Rule::Word(w) => self.word(w),
         }
     }
@@ -134,7 +136,7 @@ impl Graph {
 
     /// An operator on two terms in this order.
     #[tactic(auto, using(crate::proofs::FoldLemmas::folding, crate::proofs::BecomeLemmas::becoming))]
-    fn joined(&mut self, o: Op2, a: Term, b: Term) -> Result<Term, AllocError>
+    pub(crate) fn joined(&mut self, o: Op2, a: Term, b: Term) -> Result<Term, AllocError>
         requires first { a < length self.old }
         requires second { b < length self.old }
         requires fits { IsTrue (fits2_of o (width_of self.old a) (width_of self.old b)) }
@@ -210,7 +212,7 @@ impl Graph {
 
     /// Whether two operands of a commutative operator are to be turned: a word goes first, and else
     /// the older term.
-    fn are_turned(&self, a: Term, b: Term) -> bool
+    pub(crate) fn are_turned(&self, a: Term, b: Term) -> bool
         requires first { a < length self.now }
         requires second { b < length self.now }
     {
@@ -221,9 +223,9 @@ impl Graph {
         }
     }
 
-    /// An operator on two terms of widths that it takes. `Err` is want of memory.
+    /// An operator on two terms, where it isn't arithmetic.
     #[tactic(auto, using(crate::proofs::BecomeLemmas::turning))]
-    pub fn bin(&mut self, o: Op2, a: Term, b: Term) -> Result<Term, AllocError>
+    pub(crate) fn plain_bin(&mut self, o: Op2, a: Term, b: Term) -> Result<Term, AllocError>
         requires first { a < length self.old }
         requires second { b < length self.old }
         requires fits { IsTrue (fits2_of o (width_of self.old a) (width_of self.old b)) }
@@ -235,6 +237,142 @@ impl Graph {
             return Ok(t);
         }
         self.ordered(o, a, b)
+    }
+
+    /// Whether a term of more than one bit is a sum, a product or a negative.
+    fn is_number(&self, a: Term) -> bool
+        requires { a < length self.now }
+    {
+        if self.width(a) == 1 {
+            return false;
+        }
+        match self.node(a) {
+            Node::Bin(o, _, _) => links(Chain::Sum, o) || links(Chain::Product, o),
+            Node::Un(o, _) => same_sign(Op1::Neg, o),
+            _ => false,
+        }
+    }
+
+    /// An operator on a term, where it is arithmetic.
+    fn signed(&mut self, o: Op1, a: Term) -> Result<Term, AllocError>
+        requires { a < length self.old }
+        ensures kept { Keeps self.old self.new }
+        ensures value { IfOk result (λ t. Gives self.new t (λ v. op1_value o (value v self.old a))) }
+    {
+        match o {
+            Op1::Neg => self.negated(a),
+            Op1::Inc => self.successor(a),
+            Op1::Dec => self.predecessor(a),
+            Op1::Not => self.complemented(a),
+            _ => self.plain_un(o, a),
+        }
+    }
+
+    /// The same, where the term may be a complement.
+    #[tactic(auto, using(crate::proofs::FoldLemmas::keeping))]
+    fn signed_open(&mut self, o: Op1, a: Term) -> Result<Term, AllocError>
+        requires { a < length self.old }
+        ensures kept { Keeps self.old self.new }
+        ensures value { IfOk result (λ t. Gives self.new t (λ v. op1_value o (value v self.old a))) }
+    {
+        let x = self.opened(a)?;
+        let t = self.signed(o, x)?;
+        Ok(t)
+    }
+
+    /// An operator on a term. `Err` is want of memory.
+    #[tactic(auto, using(crate::proofs::FoldLemmas::keeping))]
+    pub fn un(&mut self, o: Op1, a: Term) -> Result<Term, AllocError>
+        requires { a < length self.old }
+        ensures kept { Keeps self.old self.new }
+        ensures value { IfOk result (λ t. Gives self.new t (λ v. op1_value o (value v self.old a))) }
+    {
+        let arithmetic = match o {
+            Op1::Neg | Op1::Inc | Op1::Dec => true,
+            Op1::Not => self.is_number(a),
+            _ => false,
+        };
+        if !arithmetic {
+            return self.plain_un(o, a);
+        }
+        let t = self.signed_open(o, a)?;
+        let s = self.closed(t)?;
+        Ok(s)
+    }
+
+    /// A term shifted to the left by another.
+    fn left_shift(&mut self, a: Term, b: Term) -> Result<Term, AllocError>
+        requires first { a < length self.old }
+        requires second { b < length self.old }
+        requires same { width_of self.old a ≡ width_of self.old b }
+        ensures kept { Keeps self.old self.new }
+        ensures value { IfOk result (λ t. Gives self.new t (λ v. op2_or Sll (value v self.old a) (value v self.old b))) }
+    {
+        if let Some(c) = self.constant(b) {
+            let t = self.shifted(a, c)?;
+            return Ok(t);
+        }
+        self.plain_bin(Op2::Sll, a, b)
+    }
+
+    /// An operator on two terms, where it is arithmetic.
+    fn calculated(&mut self, o: Op2, a: Term, b: Term) -> Result<Term, AllocError>
+        requires first { a < length self.old }
+        requires second { b < length self.old }
+        requires fits { IsTrue (fits2_of o (width_of self.old a) (width_of self.old b)) }
+        ensures kept { Keeps self.old self.new }
+        ensures value { IfOk result (λ t. Gives self.new t (λ v. op2_or o (value v self.old a) (value v self.old b))) }
+    {
+        match o {
+            Op2::Add => self.sum(a, b),
+            Op2::Sub => self.difference(a, b),
+            Op2::Mul => self.multiplied(a, b),
+            Op2::Sll => self.left_shift(a, b),
+            _ => self.plain_bin(o, a, b),
+        }
+    }
+
+    /// Whether an operator on a term and another is arithmetic.
+    fn is_arithmetic(&self, o: Op2, b: Term) -> bool
+        requires { b < length self.now }
+    {
+        match o {
+            Op2::Add | Op2::Sub | Op2::Mul => true,
+            Op2::Sll => self.constant(b).is_some(),
+            _ => false,
+        }
+    }
+
+    /// The same, where the terms may be complements.
+    #[tactic(auto, using(crate::proofs::FoldLemmas::keeping))]
+    fn calculated_open(&mut self, o: Op2, a: Term, b: Term) -> Result<Term, AllocError>
+        requires first { a < length self.old }
+        requires second { b < length self.old }
+        requires fits { IsTrue (fits2_of o (width_of self.old a) (width_of self.old b)) }
+        ensures kept { Keeps self.old self.new }
+        ensures value { IfOk result (λ t. Gives self.new t (λ v. op2_or o (value v self.old a) (value v self.old b))) }
+    {
+        let x = self.opened(a)?;
+        let y = self.opened(b)?;
+        let t = self.calculated(o, x, y)?;
+        Ok(t)
+    }
+
+    /// An operator on two terms of widths that it takes. `Err` is want of memory.
+    #[tactic(auto, using(crate::proofs::FoldLemmas::keeping))]
+    pub fn bin(&mut self, o: Op2, a: Term, b: Term) -> Result<Term, AllocError>
+        requires first { a < length self.old }
+        requires second { b < length self.old }
+        requires fits { IsTrue (fits2_of o (width_of self.old a) (width_of self.old b)) }
+        ensures kept { Keeps self.old self.new }
+        ensures value { IfOk result (λ t. Gives self.new t (λ v. op2_or o (value v self.old a) (value v self.old b))) }
+    {
+        if !self.is_arithmetic(o, b) {
+            return self.plain_bin(o, a, b);
+        }
+        let t = self.calculated_open(o, a, b)?;
+        let s = self.closed(t)?;
+        Ok(s)
     }
 
     /// A term's number, read with a sign, in `n` bits more. `Err` is want of memory.

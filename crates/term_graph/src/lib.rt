@@ -3,6 +3,8 @@
 //! `specs/Value.antt` says what value a term has under a valuation.
 #![tactic(auto)]
 
+mod arithmetic;
+mod chain;
 mod constructors;
 mod graph;
 mod node;
