@@ -23,6 +23,19 @@ fn value(o: Op2, width: u8, a: u128, b: u128) -> Option<u128> {
     }
 }
 
+/// An operator, its operands, and the number of its value.
+type Row = (Op2, u128, u128, u128);
+
+/// The operator and operands of the first row whose value at this width isn't the row's.
+fn first_other(width: u8, rows: &[Row]) -> Option<(Op2, u128, u128)> {
+    for &(o, a, b, n) in rows {
+        if value(o, width, a, b) != Some(n) {
+            return Some((o, a, b));
+        }
+    }
+    None
+}
+
 #[test]
 fn division(rt: HostRuntime) {
     for width in WIDTHS {
@@ -63,13 +76,7 @@ fn division(rt: HostRuntime) {
             (Op2::Udiv, all, all, 1),
             (Op2::Urem, all, min, max),
         ];
-        for (o, a, b, n) in rows {
-            assert_eq!(rt;
-                value(o, width, a, b),
-                Some(n),
-                "{o:?} at {width} of {a} and {b}"
-            );
-        }
+        assert_eq!(rt; first_other(width, &rows), None, "at {width}");
     }
 }
 
@@ -111,13 +118,7 @@ fn signs(rt: HostRuntime) {
             (Op2::Sub, 3, 7, all - 3),
             (Op2::Add, minus3, 3, 0),
         ];
-        for (o, a, b, n) in rows {
-            assert_eq!(rt;
-                value(o, width, a, b),
-                Some(n),
-                "{o:?} at {width} of {a} and {b}"
-            );
-        }
+        assert_eq!(rt; first_other(width, &rows), None, "at {width}");
     }
 }
 
@@ -177,13 +178,7 @@ fn shifts(rt: HostRuntime) {
             (Op2::Ror, 1, past, min),
             (Op2::Ror, min, last, 1),
         ];
-        for (o, a, b, n) in rows {
-            assert_eq!(rt;
-                value(o, width, a, b),
-                Some(n),
-                "{o:?} at {width} of {a} by {b}"
-            );
-        }
+        assert_eq!(rt; first_other(width, &rows), None, "at {width}");
     }
 }
 
@@ -221,14 +216,17 @@ fn sums_logic_and_order(rt: HostRuntime) {
             (Op2::Sgt, min, max, 0),
             (Op2::Sgte, max, min, 1),
         ];
-        for (o, a, b, n) in rows {
-            assert_eq!(rt;
-                value(o, width, a, b),
-                Some(n),
-                "{o:?} at {width} of {a} and {b}"
-            );
-        }
-        let a = Word::new(width, min);
+        assert_eq!(rt; first_other(width, &rows), None, "at {width}");
+    }
+}
+
+#[test]
+fn single_operands(rt: HostRuntime) {
+    for width in WIDTHS {
+        let all = u128::MAX >> (128 - width);
+        let min = 1u128 << (width - 1);
+        let max = all - min;
+        let a = word_or(width, min);
         let rows = [
             // The minimum has one bit, and is its own negative.
             (Op1::Not, width, max),
@@ -240,40 +238,100 @@ fn sums_logic_and_order(rt: HostRuntime) {
             (Op1::Redxor, 1, 1),
         ];
         for (o, w, n) in rows {
-            assert_eq!(rt; a.map(|a| op1(o, a)), Word::new(w, n), "{o:?} at {width}");
+            assert!(rt; Word::new(w, n) == Some(op1(o, a)), "{o:?} at {width}");
         }
     }
 }
 
+/// What a row is about, the word that is given, and the word that is wanted.
+type Given<'a> = (&'a str, Option<Word>, Option<Word>);
+
+/// What the first row is about whose word isn't the one that is wanted.
+fn first_unlike<'a>(rows: &[Given<'a>]) -> Option<&'a str> {
+    for &(what, given, wanted) in rows {
+        if given != wanted {
+            return Some(what);
+        }
+    }
+    None
+}
+
 #[test]
-fn widths(rt: HostRuntime) -> Result<(), Fail> {
+fn widths(rt: HostRuntime) {
+    let most = u128::MAX >> 1;
     // A word has 1 to 128 bits, and no more bits than its width.
-    assert_eq!(rt; Word::new(0, 0), None);
-    assert_eq!(rt; Word::new(129, 0), None);
-    assert_eq!(rt; Word::new(4, 16), None);
-    assert_eq!(rt;
-        Word::new(127, u128::MAX >> 1),
-        Some(word_or(127, u128::MAX >> 1))
-    );
-    assert_eq!(rt; word_or(4, 16), zero());
+    let rows = [
+        ("no bits", Word::new(0, 0), None),
+        ("129 bits", Word::new(129, 0), None),
+        ("a number past its width", Word::new(4, 16), None),
+        ("127 bits", Word::new(127, most), Some(word_or(127, most))),
+        ("the zero of word_or", Some(word_or(4, 16)), Some(zero())),
+    ];
+    assert_eq!(rt; first_unlike(&rows), None);
+}
+
+#[test]
+fn operands_fit(rt: HostRuntime) {
     // `iff` and `implies` take bits, `concat` at most 128 bits together, the others one width.
     assert!(rt; fits2(Op2::Iff, 1, 1) && !fits2(Op2::Iff, 2, 2) && !fits2(Op2::Implies, 1, 2));
     assert!(rt; fits2(Op2::Concat, 100, 28) && !fits2(Op2::Concat, 100, 29));
     assert!(rt; fits2(Op2::Sll, 128, 128) && !fits2(Op2::Sll, 128, 8));
+}
+
+#[test]
+fn resizing(rt: HostRuntime) -> Result<(), Fail> {
     let byte = Word::new(8, 0x96).ok_or("no word")?;
     let bit = Word::new(1, 1).ok_or("no word")?;
-    // 1001 0110: the bits 6 to 2 are 00101.
-    assert_eq!(rt; Some(slice(byte, 6, 2)), Word::new(5, 0b00101));
-    assert_eq!(rt; slice_or(byte, 8, 0), zero());
-    assert_eq!(rt; Some(uext(byte, 120)), Word::new(128, 0x96));
-    assert_eq!(rt; Some(sext(byte, 8)), Word::new(16, 0xff96));
-    assert_eq!(rt; Some(sext(bit, 127)), Word::new(128, u128::MAX));
-    assert_eq!(rt; sext_or(byte, 121), zero());
-    assert_eq!(rt; uext_or(byte, 121), zero());
-    assert_eq!(rt; Some(op2_or(Op2::Concat, bit, byte)), Word::new(9, 0x196));
-    assert_eq!(rt; op2_or(Op2::Add, bit, byte), zero());
-    assert_eq!(rt; ite(bit, byte, uext(bit, 7)), byte);
-    assert_eq!(rt; ite(zero(), byte, uext(bit, 7)), uext(bit, 7));
+    let rows = [
+        // 1001 0110: the bits 6 to 2 are 00101.
+        ("slice", Some(slice(byte, 6, 2)), Word::new(5, 0b00101)),
+        (
+            "slice_or past the end",
+            Some(slice_or(byte, 8, 0)),
+            Some(zero()),
+        ),
+        ("uext", Some(uext(byte, 120)), Word::new(128, 0x96)),
+        ("sext", Some(sext(byte, 8)), Word::new(16, 0xff96)),
+        (
+            "sext of a bit",
+            Some(sext(bit, 127)),
+            Word::new(128, u128::MAX),
+        ),
+        (
+            "sext_or past 128 bits",
+            Some(sext_or(byte, 121)),
+            Some(zero()),
+        ),
+        (
+            "uext_or past 128 bits",
+            Some(uext_or(byte, 121)),
+            Some(zero()),
+        ),
+    ];
+    assert_eq!(rt; first_unlike(&rows), None);
+    Ok(())
+}
+
+#[test]
+fn two_widths(rt: HostRuntime) -> Result<(), Fail> {
+    let byte = Word::new(8, 0x96).ok_or("no word")?;
+    let bit = Word::new(1, 1).ok_or("no word")?;
+    let wide = uext(bit, 7);
+    let rows = [
+        (
+            "concat",
+            Some(op2_or(Op2::Concat, bit, byte)),
+            Word::new(9, 0x196),
+        ),
+        (
+            "add of two widths",
+            Some(op2_or(Op2::Add, bit, byte)),
+            Some(zero()),
+        ),
+        ("ite of one", Some(ite(bit, byte, wide)), Some(byte)),
+        ("ite of zero", Some(ite(zero(), byte, wide)), Some(wide)),
+    ];
+    assert_eq!(rt; first_unlike(&rows), None);
     Ok(())
 }
 
@@ -300,13 +358,18 @@ fn lists(rt: HostRuntime) -> Result<(), Fail> {
 
 #[test]
 fn typing(rt: HostRuntime) {
-    assert_eq!(rt; op2_typed(Op2::Concat, 100, 28), Some(128));
-    assert_eq!(rt; op2_typed(Op2::Ult, 8, 8), Some(1));
-    assert_eq!(rt; op2_typed(Op2::Add, 8, 9), None);
-    assert_eq!(rt; slice_typed(8, 6, 2), Some(5));
-    assert_eq!(rt; slice_typed(8, 8, 0), None);
-    assert_eq!(rt; extended(8, u32::MAX), None);
-    assert_eq!(rt; ite_typed(1, 8, 8), Some(8));
+    let rows = [
+        ("concat", op2_typed(Op2::Concat, 100, 28), Some(128)),
+        ("ult", op2_typed(Op2::Ult, 8, 8), Some(1)),
+        ("add of two widths", op2_typed(Op2::Add, 8, 9), None),
+        ("slice", slice_typed(8, 6, 2), Some(5)),
+        ("slice past the end", slice_typed(8, 8, 0), None),
+        ("extended", extended(8, u32::MAX), None),
+        ("ite", ite_typed(1, 8, 8), Some(8)),
+    ];
+    for (what, given, wanted) in rows {
+        assert!(rt; given == wanted, "{what}");
+    }
 }
 
 #[test]
