@@ -1,0 +1,3 @@
+pub mod Rolled
+pub mod Gates
+pub mod Grown
