@@ -1,5 +1,5 @@
 -- What the tests of equality say.
-use Rattle.std.proofs.Common.{rules, ◌≡◌, true, false, Bool, ◌&&◌, refl, ap, ◌∙◌}
+use Rattle.std.proofs.Common.{rules, ◌≡◌, true, false, Bool, ◌&&◌, refl}
 use Rattle.bit_gates.specs.declared.signal.Signal.{Signal}
 use Rattle.bit_gates.specs.declared.signal.Signal.TheVariants as signal
 use Rattle.bit_gates.specs.declared.signal.Gate.{Gate}

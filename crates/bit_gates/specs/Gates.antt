@@ -1,5 +1,5 @@
 -- The bits of gates under an assignment of the inputs, which gives each input's number a bit.
-use Rattle.std.specs.Prelude.{ℕ, ◌<◌, Bool, true, false, not, ◌&&◌, if◌then◌else◌, List, slice_get, Some, ◌≡◌}
+use Rattle.std.specs.Prelude.{ℕ, ◌<◌, Bool, false, not, ◌&&◌, if◌then◌else◌, List, slice_get, Some, ◌≡◌}
 use Rattle.bit_gates.specs.declared.signal.Signal.{Signal}
 use Rattle.bit_gates.specs.declared.signal.Signal.TheVariants as signal
 use Rattle.bit_gates.specs.declared.signal.Gate.{Gate}
