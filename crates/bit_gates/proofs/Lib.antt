@@ -6,3 +6,4 @@ pub mod SumLemmas
 pub mod PairLemmas
 pub mod NumberLemmas
 pub mod OperatorLemmas
+pub mod ArithmeticLemmas

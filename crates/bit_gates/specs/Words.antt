@@ -1,6 +1,6 @@
 -- Words as lists of signals, the least significant first.
 use Rattle.std.specs.Prelude.{ℕ, ◌+◌, ◌*◌, Bool, if◌then◌else◌, List, [], ◌∷◌, length, map, All, ◌≡◌}
-use Rattle.knox_words.specs.Bits.{Bits, bits}
+use Rattle.knox_words.specs.Bits.{Bits, bits, truth}
 use Rattle.bit_gates.specs.declared.signal.Signal.{Signal}
 use Rattle.bit_gates.specs.declared.signal.Gate.{Gate}
 use Rattle.knox_words.specs.Ops.{op1_value}
@@ -40,3 +40,8 @@ pub record Gives (gs : List Gate) (word : List Signal) (f : (ℕ → Bool) → B
 -- signals of a word with every bit turned, over any gates
 pub record Complements (word turned : List Signal) : Type 0 where
   pub turns : (gs : List Gate) → Within gs word → Gives gs turned (λ v. op1_value Not (word_of v gs word))
+
+-- a signal that is 1 where a word of one bit is, under each assignment
+pub record Tells (gs : List Gate) (s : Signal) (f : (ℕ → Bool) → Bits) : Type 0 where
+  pub within : IsBelow (length gs) s
+  pub tells : (v : ℕ → Bool) → truth (signal_at v gs s) ≡ f v

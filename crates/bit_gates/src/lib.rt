@@ -4,12 +4,14 @@
 //! under an assignment of the inputs, and each operator's function says what word its list is.
 #![tactic(auto)]
 
+mod arithmetic;
 mod bitwise;
 mod gates;
 mod pairs;
 mod signal;
 mod sums;
 
+pub use arithmetic::{decremented, difference, incremented, negated, sum};
 pub use bitwise::{and, choice, nand, nor, not, or, xnor, xor};
 pub use gates::Gates;
 pub use signal::{Gate, Signal, complement};
