@@ -1,0 +1,5 @@
+use Rattle.bit_gates.proofs.OperatorLemmas.{gives-choice}
+use Rattle.bit_gates.proofs.bitwise.choice.Goals as goal
+
+pub returns-clause-value : goal.returns-clause-value
+returns-clause-value c = gives-choice c.args.gates.now c.pairwise.new.gates c.args.a.now c.args.b.now c.in_ok-bits.bits.items c.args.c c.requires.lengths c.in_ok-bits.ensures.bits
