@@ -5,14 +5,15 @@ use Rattle.std.proofs.Math.Seq.{take-length, drop-append_seam}
 use Rattle.knox_edge.specs.declared.shelf.ShelfEnd.TheVariants as end
 use Rattle.knox_verify.specs.declared.verdict.VerifyFault.TheVariants as refusal
 use Rattle.knox_run.specs.declared.status.Status.TheVariants as status
+use Rattle.sat_core.specs.declared.answering.Solved.TheVariants as solved
 use Rattle.knox_run.specs.Words.{Bytes, Reads, Rose, ShelfEnd, TooLong, Verdict, Yes, Undecided, TooWide, VerifyFault, Parts, FiveTexts, five, Means, FirstFault}
-use Rattle.knox_run.specs.Words.{Command, Verify, Check, Status, Verified, Rejected, NoEmptyClause, Outcome, NoCommand, Unbuilt, Unread, Text, Judged, Checked, Memory, OfDevice}
+use Rattle.knox_run.specs.Words.{Sat, Solved, Command, Verify, Check, Status, Verified, Rejected, NoEmptyClause, Outcome, NoCommand, Unbuilt, Unread, Text, Judged, Checked, Memory, OfDevice}
 use Rattle.knox_run.specs.Commands.{command_of}
 use Rattle.knox_run.specs.Outcomes.{status_of, to_out, to_err}
 use Rattle.knox_run.specs.Reading.{ReadWhole, ReadUpTo, RefusesRead, texts_of}
-use Rattle.knox_run.specs.Runs.{Seen, IsVerify, IsCheck, IsOther, IsVerified, outcome_of, Because, Ends, names_of}
+use Rattle.knox_run.specs.Runs.{Seen, IsVerify, IsCheck, IsSat, IsOther, IsVerified, outcome_of, Because, Ends, names_of}
 use Rattle.knox_run.specs.Writing.{StopsBoth}
-use Rattle.knox_run.specs.Consequences.{OfVerified, OfChecked, Wrote, Tells, OrStops, SaysYes, SaysClosed, SaysOneMeaning, SaysUsage, Explains, AsksPrefix, IsUnhindered, GoesThrough, IsComplete, IsCompleteYes, TellsFirstFault}
+use Rattle.knox_run.specs.Consequences.{OfVerified, OfChecked, OfSolved, Wrote, Tells, OrStops, SaysYes, SaysClosed, SaysOneMeaning, SaysUsage, Explains, AsksPrefix, IsUnhindered, GoesThrough, IsComplete, IsCompleteYes, TellsFirstFault}
 
 -- ---- what a run comes to
 
@@ -64,7 +65,7 @@ not-yet-other e = cc
 abbrev Wrote-of : Seen → Outcome → Type 0
 Wrote-of s o = Wrote s (to_out o) (to_err (names_of s.words) o)
 
-of-refusal : (s : Seen) (c : Command) (o : Outcome) → command_of s.words ≡ Some c → IsVerify (command_of s.words) ⊎ IsCheck (command_of s.words) → RefusesRead c (names_of s.words) s.before s.after o → Wrote-of s o → Explains s (status_of o)
+of-refusal : (s : Seen) (c : Command) (o : Outcome) → command_of s.words ≡ Some c → IsVerify (command_of s.words) ⊎ (IsCheck (command_of s.words) ⊎ IsSat (command_of s.words)) → RefusesRead c (names_of s.words) s.before s.after o → Wrote-of s o → Explains s (status_of o)
 of-refusal s c (Unread which) is built r w = (which, built, r, subst (λ n. Rose n s.after.faults) r.whole.faults r.refused.faults, w)
 of-refusal s c (Text letter (OfDevice TooLong)) is built r w = (letter, OfDevice TooLong, inl (c, is, r), w)
 of-refusal s c Memory is built r w = tt
@@ -79,12 +80,20 @@ of-verdict s (Err refusal.NotYet) k w = (inr (is-fault s refusal.NotYet not-yet-
 of-verdict s (Err refusal.Memory) k w = tt
 
 of-check : (s : Seen) (o : Outcome) → OfChecked s o → Wrote-of s o → Explains s (status_of o)
-of-check s (Checked Verified) k w = (k, w)
+of-check s (Checked Verified) k w = inl (k, w)
 of-check s (Checked (Rejected number why)) k w = inl (number, why, (k, w))
 of-check s (Checked NoEmptyClause) k w = inr (k, w)
-of-check s (Text letter why) k w = (letter, why, inr (inr k), w)
+of-check s (Text letter why) k w = (letter, why, inr (inr (inl k)), w)
 of-check s Memory k w = tt
 of-check s _ k w = absurd k.1.1.3
+
+of-solve : (s : Seen) (o : Outcome) → OfSolved s o → Wrote-of s o → Explains s (status_of o)
+of-solve s (Solved (solved.Sat a)) k w = inr (inl (a, (k, w)))
+of-solve s (Solved (solved.Unsat d)) k w = inr (inr (d, (k, w)))
+of-solve s (Solved (solved.Spent d)) k w = (d, (k, w))
+of-solve s (Text letter why) k w = (letter, why, inr (inr (inr k)), w)
+of-solve s Memory k w = tt
+of-solve s _ k w = absurd k.2.1.2
 
 as-outcome : (s : Seen) (o x : Outcome) → o ≡ x → (Wrote-of s x → Explains s (status_of x)) → Wrote-of s o → Explains s (status_of o)
 as-outcome s o x is f = subst (λ (z : Outcome). Wrote-of s z → Explains s (status_of z)) (sym is) f
@@ -94,8 +103,10 @@ by-cause s None o is h = as-outcome s o NoCommand h.0 (λ w. (is, h.1, w))
 by-cause s (Some (Verify b p)) o is (inl r) = of-refusal s (Verify b p) o is (inl (b, p, is)) r
 by-cause s (Some (Verify b p)) o is (inr h) =
     as-outcome s o (outcome_of h.1.2.0) h.1.2.1 (of-verdict s h.1.2.0 ((b, p, is), (h.0, (h.1.0, h.1.1, h.1.2.2))))
-by-cause s (Some Check) o is (inl r) = of-refusal s Check o is (inr is) r
+by-cause s (Some Check) o is (inl r) = of-refusal s Check o is (inr (inl is)) r
 by-cause s (Some Check) o is (inr h) = of-check s o (is, h)
+by-cause s (Some (Sat b)) o is (inl r) = of-refusal s (Sat b) o is (inr (inr (b, is))) r
+by-cause s (Some (Sat b)) o is (inr h) = of-solve s o (b, is, h)
 by-cause s (Some _) o is h = as-outcome s o Unbuilt h.0 (λ w. (inl (subst IsOther (sym is) tt, h.1), w))
 
 by-stop : (s : Seen) → Stopped s → Explains s s.status
@@ -159,6 +170,8 @@ asked-by s (Some (Verify b p)) o (inl r) = refused-asked s (Verify b p) o r
 asked-by s (Some (Verify b p)) o (inr h) = all-asked s h.0
 asked-by s (Some Check) o (inl r) = refused-asked s Check o r
 asked-by s (Some Check) o (inr h) = all-asked s h.0
+asked-by s (Some (Sat b)) o (inl r) = refused-asked s (Sat b) o r
+asked-by s (Some (Sat b)) o (inr h) = all-asked s h.0
 asked-by s (Some _) o h = none-asked s h.1
 
 -- a run asks for a prefix of the command's texts

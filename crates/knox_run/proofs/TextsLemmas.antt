@@ -21,3 +21,6 @@ no-texts es n past = ap texts_of (drop_all n es past)
 pub two-texts : (es : List Named) (n : ℕ) (t u : Bytes) → length (drop n es) ≡ 2 → option_map (λ e. e.1) (slice_get es n) ≡ Some t → option_map (λ e. e.1) (slice_get es (n + 1)) ≡ Some u → texts_of (drop n es) ≡ t ∷ u ∷ []
 two-texts es n t u count p q =
     text-next es n (n + 1) t (u ∷ []) refl p (text-next es (n + 1) (n + 2) u [] (omega arith) q (no-texts es (n + 2) (omega (arith, length-drop n es))))
+
+pub one-text : (es : List Named) (n : ℕ) (t : Bytes) → length (drop n es) ≡ 1 → option_map (λ e. e.1) (slice_get es n) ≡ Some t → texts_of (drop n es) ≡ t ∷ []
+one-text es n t count p = text-next es n (n + 1) t [] refl p (no-texts es (n + 1) (omega (arith, length-drop n es)))

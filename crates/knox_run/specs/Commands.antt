@@ -55,8 +55,14 @@ command_of (name ∷ ws) =
     else (if bytes_eq name (codes "selftest") then option_map (λ slots. Selftest slots) (slots_of ws)
     else None)))))
 
--- the words after a command's name are enough for its texts
+-- the words after a command's name are enough for its texts, and a formula's budget is no less than 1
 abbrev pub HasTexts : Command → ℕ → Type 0
 HasTexts (Verify budget paths) count = 5 ≤ count
 HasTexts Check count = count ≡ 2
+HasTexts (Sat budget) count = (1 ≤ count) × (1 ≤ budget)
 HasTexts _ count = Unit {0}
+
+-- how many names of texts stand behind a command's name at most
+abbrev pub most_texts : Option Command → ℕ
+most_texts (Some (Sat budget)) = 1
+most_texts _ = 5

@@ -4,12 +4,16 @@ use Rattle.knox_edge.specs.declared.shelf.ShelfEnd.TheVariants.{Failed}
 use Rattle.knox_verify.specs.declared.verdict.VerifyFault.TheVariants as refusal
 use Rattle.knox_run.specs.declared.status.Status.TheVariants as status
 use Rattle.knox_run.specs.Words.{Bytes, limit, Rose, Agree, HintNo, Choices, RatStep, Letter, TextWhy, VerifyFault, Verdict, Yes, Undecided, TooWide, Parts, device, AllHold, FiveTexts, Means, FirstFault}
-use Rattle.knox_run.specs.Words.{Command, Status, CheckEnd, Verified, Rejected, NoEmptyClause, Outcome, Text, Judged, Checked, TextFault, OfDevice}
+use Rattle.knox_cnf.specs.declared.formula.Assignment.{Assignment}
+use Rattle.sat_core.specs.declared.answering.Solved.{Solved as Answer}
+use Rattle.sat_core.specs.declared.answering.Solved.TheVariants as solved
+use Rattle.knox_run.specs.Words.{Proof, Sat, Solved, Command, Status, CheckEnd, Verified, Rejected, NoEmptyClause, Outcome, Text, Judged, Checked, TextFault, OfDevice}
 use Rattle.knox_run.specs.Commands.{command_of}
 use Rattle.knox_run.specs.Checking.{ChecksTexts}
+use Rattle.knox_run.specs.Solving.{SolvesTexts, solved_lines}
 use Rattle.knox_run.specs.Lines.{usage_line, not_yet_line, cannot_read_line, text_line, check_line, verdict_lines}
 use Rattle.knox_run.specs.Reading.{ReadUpTo, RefusesRead, OfTexts}
-use Rattle.knox_run.specs.Runs.{Seen, IsVerify, IsCheck, IsOther, IsVerified, OfFive, names_of, outcome_of}
+use Rattle.knox_run.specs.Runs.{Seen, IsVerify, IsCheck, IsSat, IsOther, IsVerified, OfFive, names_of, outcome_of}
 use Rattle.knox_run.specs.Outcomes.{status_of, to_out, to_err}
 use Rattle.knox_run.specs.Writing.{Whole}
 
@@ -20,6 +24,10 @@ OfVerified s said = IsVerify (command_of s.words) × OfTexts (OfFive said) (name
 -- the words are a check command, the shelf gave two texts, and this is the outcome of their check
 abbrev pub OfChecked : Seen → Outcome → Type 0
 OfChecked s o = IsCheck (command_of s.words) × OfTexts (ChecksTexts o) (names_of s.words) s.before s.after
+
+-- the words are a sat command, the shelf gave a text, and this is the outcome of solving it
+abbrev pub OfSolved : Seen → Outcome → Type 0
+OfSolved s o = (budget : ℕ) × (command_of s.words ≡ Some (Sat budget)) × OfTexts (SolvesTexts budget o) (names_of s.words) s.before s.after
 
 -- where it is told, these texts were appended to `out` and to `err`, and no put failed
 abbrev pub Wrote : Seen → Bytes → Bytes → Type 0
@@ -53,16 +61,21 @@ JudgedAs s v = OfVerified s (λ t. IsVerified t (Ok v)) × Wrote s (verdict_line
 abbrev pub CheckedAs : Seen → CheckEnd → Type 0
 CheckedAs s end = OfChecked s (Checked end) × Wrote s (check_line end) []
 
--- a text is too long, or it is the first of five or of two that has a fault, this one
+-- the formula of the text has this answer, which was written
+abbrev pub SolvedAs : Seen → Answer → Type 0
+SolvedAs s answer = OfSolved s (Solved answer) × Wrote s (solved_lines answer) []
+
+-- a text is too long, or it is the first of five, of two or of one that has a fault, this one
 abbrev pub Faulty : Seen → Letter → TextFault → Type 0
 Faulty s letter why =
     ((c : Command) × (command_of s.words ≡ Some c) × RefusesRead c (names_of s.words) s.before s.after (Text letter why))
-    ⊎ (((x : TextWhy) × (why ≡ OfDevice x) × OfVerified s (λ t. FirstFault t (refusal.Text letter x))) ⊎ OfChecked s (Text letter why))
+    ⊎ (((x : TextWhy) × (why ≡ OfDevice x) × OfVerified s (λ t. FirstFault t (refusal.Text letter x))) ⊎ (OfChecked s (Text letter why) ⊎ OfSolved s (Text letter why)))
 
 -- why a status comes, and what was written with it
 abbrev pub Explains : Seen → Status → Type 0
 Explains s status.Yes = JudgedAs s Yes
-Explains s status.Done = CheckedAs s Verified
+Explains s status.Done = CheckedAs s Verified ⊎ (((a : Assignment) × SolvedAs s (solved.Sat a)) ⊎ ((d : Proof) × SolvedAs s (solved.Unsat d)))
+Explains s status.Spent = (d : Proof) × SolvedAs s (solved.Spent d)
 Explains s status.No = ((number : ℕ) × (why : RatStep) × CheckedAs s (Rejected number why)) ⊎ CheckedAs s NoEmptyClause
 Explains s status.Undecided = (hint : HintNo) × (choices : Choices) × JudgedAs s (Undecided hint choices)
 Explains s status.TooWide = (hint : HintNo) × (bits : ℕ) × JudgedAs s (TooWide hint bits)
@@ -70,7 +83,7 @@ Explains s status.Usage = (command_of s.words ≡ None) × (s.after ≡ s.before
 Explains s status.NotYet =
     ((IsOther (command_of s.words) × (s.after ≡ s.before)) ⊎ OfVerified s (λ t. FirstFault t refusal.NotYet)) × Wrote s [] not_yet_line
 Explains s status.ReadFault =
-    (which : ℕ) × (IsVerify (command_of s.words) ⊎ IsCheck (command_of s.words)) × ReadUpTo (names_of s.words) which Failed s.before s.after
+    (which : ℕ) × (IsVerify (command_of s.words) ⊎ (IsCheck (command_of s.words) ⊎ IsSat (command_of s.words))) × ReadUpTo (names_of s.words) which Failed s.before s.after
     × Rose s.before.faults s.after.faults × Wrote s [] (cannot_read_line (slice_index_or (names_of s.words) which []))
 Explains s status.Text = (letter : Letter) × (why : TextFault) × Faulty s letter why × Wrote s [] (text_line letter why)
 Explains s status.WriteFault = Rose s.out_before.faults s.out_after.faults ⊎ Rose s.err_before.faults s.err_after.faults

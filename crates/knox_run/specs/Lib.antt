@@ -4,6 +4,7 @@ pub mod Lines
 pub mod Outcomes
 pub mod Reading
 pub mod Checking
+pub mod Solving
 pub mod Writing
 pub mod Runs
 pub mod Consequences

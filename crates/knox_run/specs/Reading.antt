@@ -3,7 +3,7 @@ use Rattle.std.specs.Prelude.{◌≡◌, ℕ, ◌<◌, ◌≤◌, List, [], ◌+
 use Rattle.std.specs.List.{All}
 use Rattle.knox_edge.specs.declared.shelf.ShelfEnd.TheVariants as end
 use Rattle.knox_run.specs.Words.{Bytes, Named, Reads, limit, ShelfEnd, Asks, CountsFault, TookTooMuch, Letter, C, S, D, E, H, F, P}
-use Rattle.knox_run.specs.Words.{TooLong, Command, Check, Outcome, Unread, Text, Memory, OfDevice}
+use Rattle.knox_run.specs.Words.{TooLong, Command, Sat, Check, Outcome, Unread, Text, Memory, OfDevice}
 
 -- no text is over the limit
 abbrev pub Within : List Bytes → Type 0
@@ -36,8 +36,9 @@ pub record ReadUpTo (names : List Bytes) (which : ℕ) (end : ShelfEnd) (before 
   pub whole : ReadWhole (take which names) before between
   pub refused : Refuses (slice_index_or names which []) end between after
 
--- the letter of a command's text, by its place: C S D E H, or F P
+-- the letter of a command's text, by its place: C S D E H, or F P, or F
 abbrev pub letter_of : Command → ℕ → Letter
+letter_of (Sat budget) which = F
 letter_of Check which = if which == 0 then F else P
 letter_of _ which = if which == 0 then C else (if which == 1 then S else (if which == 2 then D else (if which == 3 then E else H)))
 

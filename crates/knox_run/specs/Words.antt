@@ -9,10 +9,12 @@ pub use Rattle.expr_read.specs.declared.faults.LangWhy.{LangWhy}
 pub use Rattle.script_read.specs.declared.fault.ScriptWhy.{ScriptWhy}
 pub use Rattle.script_core.specs.declared.parts.{HintNo.HintNo, Choices.Choices}
 pub use Rattle.knox_cnf.specs.{Formulas.clauses_true, declared.formula.Cnf.Cnf}
-pub use Rattle.lrat_check.specs.{declared.lemma.Lemma.Lemma, Derivations.Proof, Derivations.proof, Derivations.lemma, Derivations.start_of, Derivations.with_lemma, Derivations.is_closed}
+pub use Rattle.lrat_check.specs.{declared.lemma.Lemma.Lemma, Derivations.Proof, Derivations.proof, Derivations.lemma, Derivations.start_of, Derivations.with_lemma, Derivations.is_closed, Soundness.LemmasFollow, Soundness.IsUnsatisfiable}
 pub use Rattle.rat_check.specs.{declared.rat_step.RatStep.RatStep, Refutations.answer, Refutations.live_without}
 pub use Rattle.proof_text.specs.{Dimacs.cnf_of, Lrat.lrat_of, Unread.lines_left, declared.fault.ProofFault.ProofFault}
 pub use Rattle.proof_text.specs.declared.proof_line.ProofLine.{ProofLine, TheVariants.Add, TheVariants.Delete}
+pub use Rattle.proof_text.specs.Printing.{line_shown}
+pub use Rattle.sat_core.specs.Answers.{Answers}
 pub use Rattle.knox_edge.specs.Texts.{Bytes, Named, Reads, bytes_of, limit}
 pub use Rattle.knox_edge.specs.{Counts.Rose, Sink.Sunk, declared.shelf.ShelfEnd.ShelfEnd}
 pub use Rattle.knox_edge.specs.Shelf.{Asks, Gives, CountsFault, TookTooMuch}
@@ -28,6 +30,6 @@ pub use Rattle.knox_run.specs.declared.status.Status.{Status, TheVariants.WriteF
 pub use Rattle.knox_run.specs.declared.checking.CheckEnd.{CheckEnd}
 pub use Rattle.knox_run.specs.declared.checking.CheckEnd.TheVariants.{Verified, Rejected, NoEmptyClause}
 pub use Rattle.knox_run.specs.declared.outcome.Outcome.{Outcome}
-pub use Rattle.knox_run.specs.declared.outcome.Outcome.TheVariants.{NoCommand, Unbuilt, Unread, Text, Judged, Checked, Memory}
+pub use Rattle.knox_run.specs.declared.outcome.Outcome.TheVariants.{NoCommand, Unbuilt, Unread, Text, Judged, Checked, Solved, Memory}
 pub use Rattle.knox_run.specs.declared.outcome.TextFault.{TextFault}
 pub use Rattle.knox_run.specs.declared.outcome.TextFault.TheVariants.{OfDevice, OfProof}

@@ -7,9 +7,11 @@ ghost use Rattle.knox_run.specs.Writing.{Puts, Delivers};
 use crate::checking::CheckEnd;
 use crate::lines::{cannot_read, check_line, text_line, verdict_lines};
 use crate::outcome::Outcome;
+use crate::solving::solved_lines;
 use crate::status::Status;
 use knox_edge::{Sink, SinkEnd};
 use knox_verify::Verdict;
+use sat_core::Solved;
 use std::alloc::{AllocError, Global};
 
 /// The line of a command's use.
@@ -41,17 +43,20 @@ fn status_of(outcome: &Outcome) -> Status
         Outcome::Judged(Verdict::TooWide(_, _)) => Status::TooWide,
         Outcome::Checked(CheckEnd::Verified) => Status::Done,
         Outcome::Checked(_) => Status::No,
+        Outcome::Solved(Solved::Spent(_)) => Status::Spent,
+        Outcome::Solved(_) => Status::Done,
         Outcome::Memory => Status::Memory,
     }
 }
 
-/// What is written to `out`: a verdict, or how a check ended.
+/// What is written to `out`: a verdict, how a check ended, or what a formula comes to.
 fn to_out(alloc: Global, outcome: &Outcome) -> Result<Vec<u8>, AllocError>
     ensures { IfOk result (λ text. text.items ≡ to_out outcome.now) }
 {
     match outcome {
         Outcome::Judged(verdict) => Ok(verdict_lines(alloc, verdict)?.into_bytes()),
         Outcome::Checked(end) => Ok(check_line(alloc, *end)?.into_bytes()),
+        Outcome::Solved(solved) => solved_lines(alloc, solved),
         _ => Ok(Vec::new(alloc)),
     }
 }

@@ -92,7 +92,7 @@ fn check_lines(
 }
 
 /// A text with a fault, or want of memory.
-fn cause(letter: Letter, fault: ProofFault) -> Outcome
+pub fn cause(letter: Letter, fault: ProofFault) -> Outcome
     ensures { result ≡ cause_of letter fault }
 {
     match fault {

@@ -28,6 +28,7 @@ pub enum Command {
 fn limited(most: u64, word: &[u8]) -> Option<u64>
     ensures value { result ≡ limited most word.now }
     ensures bound { IfSome result (λ n. n ≤ most) }
+    ensures low { IfSome result (λ n. 1 ≤ n) }
 {
     let number = natural(word)?;
     if 1 <= number && number <= u128::from(most) {
@@ -45,9 +46,11 @@ fn limit_after<'a>(
     most: u64,
     words: &'a [Vec<u8>],
 ) -> Option<(u64, &'a [Vec<u8>])>
-    requires { default ≤ most }
+    requires default { default ≤ most }
+    requires some { 1 ≤ default }
     ensures value { option_map (λ r. (r.0, bytes_of r.1.now)) result ≡ limit_after key.now default most (bytes_of words.now) }
     ensures bound { IfSome result (λ r. r.0 ≤ most) }
+    ensures low { IfSome result (λ r. 1 ≤ r.0) }
 {
     match words {
         [word, number, rest @ ..] => {
@@ -63,7 +66,8 @@ fn limit_after<'a>(
 
 /// How many lemmas an obligation may take, and the words behind.
 fn budget_after(words: &[Vec<u8>]) -> Option<(u64, &[Vec<u8>])>
-    ensures { option_map (λ r. (r.0, bytes_of r.1.now)) result ≡ budget_after (bytes_of words.now) }
+    ensures value { option_map (λ r. (r.0, bytes_of r.1.now)) result ≡ budget_after (bytes_of words.now) }
+    ensures low { IfSome result (λ r. 1 ≤ r.0) }
 {
     limit_after(b"budget", 1_000_000, 4_294_967_296, words)
 }
@@ -92,7 +96,9 @@ fn verify_command(words: &[Vec<u8>]) -> Option<Command>
 
 /// F, and then the budget.
 fn budgeted(words: &[Vec<u8>]) -> Option<u64>
-    ensures { result ≡ budgeted (bytes_of words.now) }
+    ensures value { result ≡ budgeted (bytes_of words.now) }
+    ensures low { IfSome result (λ budget. 1 ≤ budget) }
+    ensures text { IfSome result (λ _. 1 ≤ length words.now) }
 {
     let (_, limits) = words.split_first()?;
     let (budget, rest) = budget_after(limits)?;

@@ -1,11 +1,13 @@
-//! Gives texts that were read to the verifier, or to the checker of proofs.
+//! Gives texts that were read to the verifier, to the checker of proofs, or to the solver.
 ghost use Rattle.std.specs.Prelude.{◌≡◌, ◌≤◌, ◌+◌, ◌^◌, length, drop};
 ghost use Rattle.knox_run.specs.Reading.{Within, texts_of};
 ghost use Rattle.knox_run.specs.Runs.{VerifiesTo, outcome_of};
 ghost use Rattle.knox_run.specs.Checking.{ChecksTexts};
+ghost use Rattle.knox_run.specs.Solving.{SolvesTexts};
 
 use crate::checking::check_texts;
 use crate::outcome::{Outcome, TextFault};
+use crate::solving::solve_text;
 use knox_edge::Shelf;
 use knox_verify::{Verdict, VerifyFault, verify_texts};
 use std::alloc::Global;
@@ -47,4 +49,16 @@ pub fn check_given<F: Shelf>(alloc: Global, shelf: &F, first: usize) -> Outcome
     let formula = shelf.text(first);
     let proof = shelf.text(first + 1);
     check_texts(alloc, formula, proof)
+}
+
+/// Solves the text that a shelf gave last, at this place, with so many lemmas at most.
+pub fn solve_given<F: Shelf>(alloc: Global, shelf: &F, place: usize, budget: u64) -> Outcome
+    requires one { length (drop place (F.history shelf.now).given) ≡ 1 }
+    requires within { Within (texts_of (drop place (F.history shelf.now).given)) }
+    requires places { place + 1 ≤ 2 ^ 64 }
+    requires budget { 1 ≤ budget }
+    ensures { SolvesTexts budget result (texts_of (drop place (F.history shelf.now).given)) }
+{
+    let formula = shelf.text(place);
+    solve_text(alloc, formula, budget)
 }

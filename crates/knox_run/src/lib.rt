@@ -9,6 +9,7 @@ mod lines;
 mod outcome;
 mod program;
 mod reading;
+mod solving;
 mod status;
 mod words;
 

@@ -2,6 +2,7 @@
 use crate::checking::CheckEnd;
 use knox_verify::{Letter, TextWhy, Verdict};
 use proof_text::ProofFault;
+use sat_core::Solved;
 
 /// What is wrong with a text.
 #[derive(Clone, Copy, Debug, PartialEq, Eq)]
@@ -27,6 +28,8 @@ pub enum Outcome {
     Judged(Verdict),
     /// The check of a proof ends so.
     Checked(CheckEnd),
+    /// A formula comes to this.
+    Solved(Solved),
     /// Memory ran out.
     Memory,
 }

@@ -1,7 +1,7 @@
 //! A run of the program: its words, then the reads, then the work, then the writing.
-ghost use Rattle.std.specs.Prelude.{◌≡◌, ◌-◌, Some, length, min};
+ghost use Rattle.std.specs.Prelude.{◌≡◌, ◌≤◌, ◌-◌, Some, length, min, take, drop};
 ghost use Rattle.knox_run.specs.Words.{bytes_of};
-ghost use Rattle.knox_run.specs.Commands.{command_of};
+ghost use Rattle.knox_run.specs.Commands.{command_of, most_texts};
 ghost use Rattle.knox_run.specs.Outcomes.{status_of, to_out, to_err};
 ghost use Rattle.knox_run.specs.Writing.{Delivers};
 ghost use Rattle.knox_run.specs.Runs.{seen, Because, Ends, names_of};
@@ -9,7 +9,7 @@ ghost use Rattle.knox_run.specs.Consequences.{SaysYes, SaysClosed, SaysOneMeanin
 
 use crate::answer::{answer_of, deliver};
 use crate::command::{Command, read_command};
-use crate::judging::{check_given, judge};
+use crate::judging::{check_given, judge, solve_given};
 use crate::outcome::Outcome;
 use crate::reading::read_texts;
 use crate::status::Status;
@@ -17,16 +17,33 @@ use crate::words::Words;
 use knox_edge::{Shelf, Sink};
 use std::alloc::Global;
 
-/// The names of a command's texts: five words after the first, or all of fewer.
-fn text_names(words: &[Vec<u8>]) -> &[Vec<u8>]
-    ensures names { bytes_of result.now ≡ names_of (bytes_of words.now) }
-    ensures count { length result.now ≡ min 5 (length words.now - 1) }
+/// So many words after the first, or all of fewer.
+fn first_names(words: &[Vec<u8>], most: usize) -> &[Vec<u8>]
+    ensures names { bytes_of result.now ≡ take most (drop 1 (bytes_of words.now)) }
+    ensures count { length result.now ≡ min most (length words.now - 1) }
 {
     match words {
         [] => words,
-        [_, names @ ..] if names.len() > 5 => &names[..5],
+        [_, names @ ..] if names.len() > most => &names[..most],
         [_, names @ ..] => names,
     }
+}
+
+/// How many names of texts stand behind a command's name at most.
+fn most_texts(command: Option<Command>) -> usize
+    ensures { result ≡ most_texts command }
+{
+    match command {
+        Some(Command::Sat { .. }) => 1,
+        _ => 5,
+    }
+}
+
+/// The names of a command's texts.
+fn text_names(words: &[Vec<u8>]) -> &[Vec<u8>]
+    ensures { bytes_of result.now ≡ names_of (bytes_of words.now) }
+{
+    first_names(words, most_texts(read_command(words)))
 }
 
 /// Verifies the texts of these names, which are the five of a verify command.
@@ -57,6 +74,18 @@ fn check<F: Shelf>(alloc: Global, names: &[Vec<u8>], shelf: &mut F) -> Outcome
     }
 }
 
+/// Solves the formula of this name.
+fn sat<F: Shelf>(alloc: Global, names: &[Vec<u8>], shelf: &mut F, budget: u64) -> Outcome
+    requires one { length names.now ≡ 1 }
+    requires budget { 1 ≤ budget }
+    ensures { Because (Some (Command.Sat budget)) (bytes_of names.now) (F.history shelf.old) (F.history shelf.new) result }
+{
+    match read_texts(Command::Sat { budget }, names, shelf) {
+        Ok(place) => solve_given(alloc, &*shelf, place, budget),
+        Err(outcome) => outcome,
+    }
+}
+
 /// What the words come to. Nothing is written here.
 fn work<F: Shelf>(alloc: Global, words: &[Vec<u8>], shelf: &mut F) -> Outcome
     ensures { Because (command_of (bytes_of words.now)) (names_of (bytes_of words.now)) (F.history shelf.old) (F.history shelf.new) result }
@@ -64,9 +93,10 @@ fn work<F: Shelf>(alloc: Global, words: &[Vec<u8>], shelf: &mut F) -> Outcome
     match read_command(words) {
         None => Outcome::NoCommand,
         Some(Command::Verify { budget, paths }) => {
-            verify(alloc, text_names(words), shelf, budget, paths)
+            verify(alloc, first_names(words, 5), shelf, budget, paths)
         }
-        Some(Command::Check) => check(alloc, text_names(words), shelf),
+        Some(Command::Check) => check(alloc, first_names(words, 5), shelf),
+        Some(Command::Sat { budget }) => sat(alloc, first_names(words, 1), shelf, budget),
         Some(_) => Outcome::Unbuilt,
     }
 }
@@ -94,7 +124,7 @@ fn say<O: Sink, E: Sink>(
 /// - `NotYet` comes where the command isn't built, and then nothing is read, or where the first of
 ///   five texts without a meaning is in no form that is built.
 /// - `ReadFault` and `Text` come where a read was refused; `Text` also with the first fault of a
-///   check's texts, or of five texts where it is told.
+///   check's texts, of a formula, or of five texts where it is told.
 /// - `WriteFault` comes in place of the status that was to come, where a put failed.
 /// - `Memory` may come at any point.
 pub fn run<F: Shelf, O: Sink, E: Sink>(

@@ -13,6 +13,7 @@ fn letter_of(command: Command, which: usize) -> Letter
     ensures { result ≡ letter_of command which }
 {
     match (command, which) {
+        (Command::Sat { .. }, _) => Letter::F,
         (Command::Check, 0) => Letter::F,
         (Command::Check, _) => Letter::P,
         (_, 0) => Letter::C,

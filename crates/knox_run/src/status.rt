@@ -7,12 +7,14 @@ ghost use Rattle.knox_run.specs.Outcomes.{number_of};
 pub enum Status {
     /// The two worlds agree.
     Yes,
-    /// The command did its work: a proof is verified.
+    /// The command did its work: a proof is verified, or a formula is solved.
     Done,
     /// A proof is rejected.
     No,
     /// Choices falsify a hint, which shows nothing of the two worlds.
     Undecided,
+    /// The budget of lemmas is spent.
+    Spent,
     /// A text has a fault.
     Text,
     /// The words are no command.
@@ -39,6 +41,7 @@ impl Status {
             Status::Done => 0,
             Status::No => 1,
             Status::Undecided => 2,
+            Status::Spent => 3,
             Status::Text => 5,
             Status::Usage => 6,
             Status::ReadFault => 7,

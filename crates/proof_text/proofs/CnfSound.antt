@@ -7,7 +7,8 @@ use Rattle.std.proofs.lemmas.List.Folds.{list_all-append}
 use Rattle.knox_text.specs.declared.place.Place.{Place}
 use Rattle.knox_text.specs.Lines.{lines, begins_with}
 use Rattle.knox_text.specs.Places.{start_of, end_of}
-use Rattle.knox_cnf.specs.Literals.{literal}
+use Rattle.knox_cnf.specs.Literals.{Literal, literal}
+use Rattle.knox_cnf.specs.Formulas.{clause_within, is_within}
 use Rattle.knox_cnf.specs.declared.formula.Cnf.{Cnf}
 use Rattle.proof_text.specs.declared.fault.ProofFault.{ProofFault}
 use Rattle.proof_text.specs.declared.fault.ProofFault.TheVariants.{Header, Count, Variable, Shape}
@@ -180,3 +181,26 @@ printed-again text f m =
     let p = bind-end (with_lines nothing 1 (lines text)) end f m in
     let q = finished-ok p.0 p.0.stage end f p.2 in
     again-from p.0 f (sound-lines (lines text) nothing 1 p.0 sound-nothing p.1) q.0 q.1
+
+-- ---- variables
+
+clause-within : (vars : ℕ) (c : List Literal) → list_all (good vars) c ≡ true → clause_within vars c ≡ true
+clause-within vars [] g = refl
+clause-within vars (l ∷ c) g =
+    let p = and_parts (good vars l) (list_all (good vars) c) g in
+    and_from (nat_le l.var vars) (clause_within vars c) (and_parts (nat_le 1 l.var) (nat_le l.var vars) p.0).1 (clause-within vars c p.1)
+
+clauses-within : (vars : ℕ) (cs : List (List Literal)) → list_all (list_all (good vars)) cs ≡ true → is_within vars cs ≡ true
+clauses-within vars [] g = refl
+clauses-within vars (c ∷ cs) g =
+    let p = and_parts (list_all (good vars) c) (list_all (list_all (good vars)) cs) g in
+    and_from (clause_within vars c) (is_within vars cs) (clause-within vars c p.0) (clauses-within vars cs p.1)
+
+-- no variable of a formula that a text means is past its number of variables
+pub meant-within : (text : List ℕ) (f : Cnf) → cnf_of text ≡ Ok f → is_within f.vars f.clauses ≡ true
+meant-within text f m =
+    let end = end_of (start_of text) in
+    let p = bind-end (with_lines nothing 1 (lines text)) end f m in
+    let q = finished-ok p.0 p.0.stage end f p.2 in
+    subst (λ (g : Cnf). is_within g.vars g.clauses ≡ true) q.1
+    (clauses-within p.0.vars p.0.clauses (sound-lines (lines text) nothing 1 p.0 sound-nothing p.1).whole)

@@ -36,6 +36,8 @@ fn words_that_are_no_command(rt: HostRuntime) -> Result<(), Fail> {
         "selftest 0",
         "selftest 65",
         "prove f budget 18446744073709551617",
+        "sat f budget 0",
+        "sat f g",
     ];
     for line in lines {
         let shelf = five_texts(alloc, Vec::new(alloc))?;
@@ -48,12 +50,7 @@ fn words_that_are_no_command(rt: HostRuntime) -> Result<(), Fail> {
 #[test]
 fn commands_that_are_not_built(rt: HostRuntime) -> Result<(), Fail> {
     let alloc = rt.alloc();
-    let lines = [
-        "replay c s d e t",
-        "prove f budget 007",
-        "sat f",
-        "selftest 064",
-    ];
+    let lines = ["replay c s d e t", "prove f budget 007", "selftest 064"];
     for line in lines {
         let shelf = MemShelf::new(alloc, Vec::new(alloc), Vec::new(alloc));
         let ran = run_line(alloc, line, shelf, Vec::new(alloc), Vec::new(alloc))?;

@@ -16,6 +16,8 @@ mod host;
 #[cfg(test)]
 mod memory;
 #[cfg(test)]
+mod sat;
+#[cfg(test)]
 mod trial;
 #[cfg(test)]
 mod verdict;
