@@ -3,3 +3,4 @@ pub mod Parts
 pub mod Lists
 pub mod NotMissing
 pub mod NotMissingExpr
+pub mod Numbered

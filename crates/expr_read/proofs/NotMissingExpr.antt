@@ -3,7 +3,7 @@ use Rattle.std.proofs.Common.{◌≡◌, ℕ, zero, suc, ◌==◌, List, [], ◌
 use Rattle.std.specs.List.{AllByRecursion}
 use Rattle.knox_text.specs.declared.place.Place.{Place}
 use Rattle.knox_words.specs.Bits.{bits, is_word}
-use Rattle.knox_words.specs.Typing.{op2_typed, ite_typed}
+use Rattle.knox_words.specs.Typing.{op2_typed, slice_typed, extended, ite_typed}
 use Rattle.knox_words.specs.declared.op.Op2.{Op2}
 use Rattle.knox_lang.specs.declared.expr.Space.{Space}
 use Rattle.knox_lang.specs.declared.expr.Space.TheVariants as spaces
@@ -11,15 +11,16 @@ use Rattle.knox_sexpr.specs.declared.tree.Tree.{Tree, out-Tree}
 use Rattle.knox_sexpr.specs.declared.tree.Tree.TheOpen.{Tree-F}
 use Rattle.knox_sexpr.proofs.Meaning.{by_parts}
 use Rattle.expr_read.specs.declared.expression.Typed.{Typed}
+use Rattle.expr_read.specs.declared.expression.Extension.{Extension}
 use Rattle.expr_read.specs.declared.expression.Head.{Head}
-use Rattle.expr_read.specs.declared.expression.Head.TheVariants.{Un, Bin, Ite, Bv, Names, Unknown, NoSymbol}
+use Rattle.expr_read.specs.declared.expression.Head.TheVariants.{Un, Bin, Ite, Slice, Longer, Bv, Names, Unknown, NoSymbol}
 use Rattle.expr_read.specs.declared.names.Group.{Group}
 use Rattle.expr_read.specs.declared.names.Group.TheVariants.{Plain, Copy}
 use Rattle.expr_read.specs.declared.names.Named.{Named}
 use Rattle.expr_read.specs.declared.names.Seen.{Seen}
 use Rattle.expr_read.specs.Views.{◌>>=◌, place_of, number_of, width_of, is_width, symbol_of, parts_of, is_symbol}
 use Rattle.expr_read.specs.Names.{found, seen_at, seen_of, target_in, target_at, copied, target_level, target, is_declared, pair, local_in, local, locals, and_last}
-use Rattle.expr_read.specs.Expressions.{Part, word, literal, meant, one, two, three, bin_typed, choice_typed, bv_word, bv, named_symbol, named_by_form, applied, head_of, list, part, expr_of, expr_of_width}
+use Rattle.expr_read.specs.Expressions.{Part, word, literal, meant, one, two, three, bin_typed, choice_typed, bits_typed, longer_typed, numbers, sliced, extended_by, bv_word, bv, named_symbol, named_by_form, applied, head_of, list, part, expr_of, expr_of_width}
 use Rattle.expr_read.proofs.Parts.{part-Atom, part-Number, part-List}
 use Rattle.expr_read.proofs.NotMissing.{NotMissing, and-then, either, all-map, in-each, in-number, in-symbol, in-parts, in-width}
 
@@ -121,6 +122,32 @@ in-choice : (at : Place) (p : Typed × Typed × Typed) (width : Option ℕ) → 
 in-choice at p None = refl
 in-choice at p (Some w) = tt
 
+in-bits : (at : Place) (high low : ℕ) (x : Typed) (width : Option ℕ) → NotMissing (bits_typed at high low x width)
+in-bits at high low x None = refl
+in-bits at high low x (Some w) = tt
+
+in-longer : (at : Place) (by : Extension) (more : ℕ) (x : Typed) (width : Option ℕ) → NotMissing (longer_typed at by more x width)
+in-longer at by more x None = refl
+in-longer at by more x (Some w) = tt
+
+in-numbers : (a b : Tree) → NotMissing (numbers a b)
+in-numbers a b = and-then (number_of a) _ (in-number a) (λ m. and-then (number_of b) _ (in-number b) (λ n. tt))
+
+in-sliced : (at : Place) (ps : List Part) → AllByRecursion Good ps → (names : List Named) → NotMissing (sliced at ps names)
+in-sliced at [] all names = refl
+in-sliced at (a ∷ []) all names = refl
+in-sliced at (a ∷ b ∷ []) all names = refl
+in-sliced at (a ∷ b ∷ c ∷ []) all names =
+    and-then (numbers a.tree b.tree) _ (in-numbers a.tree b.tree) (λ bounds. and-then (c.reading names) _ (all.1.1.0 names) (λ x. in-bits at bounds.0 bounds.1 x (slice_typed x.width bounds.0 bounds.1)))
+in-sliced at (a ∷ b ∷ c ∷ d ∷ ps) all names = refl
+
+in-extended : (at : Place) (by : Extension) (ps : List Part) → AllByRecursion Good ps → (names : List Named) → NotMissing (extended_by at by ps names)
+in-extended at by [] all names = refl
+in-extended at by (a ∷ []) all names = refl
+in-extended at by (a ∷ b ∷ []) all names =
+    and-then (number_of a.tree) _ (in-number a.tree) (λ more. and-then (b.reading names) _ (all.1.0 names) (λ x. in-longer at by more x (extended x.width more)))
+in-extended at by (a ∷ b ∷ c ∷ ps) all names = refl
+
 bits-word : (w n : Tree) → NotMissing (bv_word w n)
 bits-word w n = and-then (width_of w) _ (in-width w) (λ width. and-then (number_of n) _ (in-number n) (λ value. in-word (place_of n) width value))
 
@@ -142,6 +169,8 @@ in-applied : (at head_at : Place) (head : Head) (ps : List Part) → AllByRecurs
 in-applied at head_at (Un o) ps all names = and-then (one at ps names) _ (in-one at ps all names) (λ x. tt)
 in-applied at head_at (Bin o) ps all names = and-then (two at ps names) _ (in-two at ps all names) (λ p. in-bin at o p (op2_typed o p.0.width p.1.width))
 in-applied at head_at Ite ps all names = and-then (three at ps names) _ (in-three at ps all names) (λ p. in-choice at p (ite_typed p.0.width p.1.width p.2.width))
+in-applied at head_at Slice ps all names = in-sliced at ps all names
+in-applied at head_at (Longer by) ps all names = in-extended at by ps all names
 in-applied at head_at Bv ps all names = in-bv at ps
 in-applied at head_at (Names group) ps all names = by-form at group ps names
 in-applied at head_at Unknown ps all names = refl

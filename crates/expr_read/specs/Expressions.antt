@@ -4,11 +4,9 @@ use Rattle.std.specs.Str.{bytes_eq}
 use Rattle.knox_text.specs.declared.place.Place.{Place}
 use Rattle.knox_words.specs.Bits.{bits, is_word}
 use Rattle.knox_words.specs.Ops.{op1_width}
-use Rattle.knox_words.specs.Typing.{op2_typed, ite_typed}
+use Rattle.knox_words.specs.Typing.{op2_typed, slice_typed, extended, ite_typed}
 use Rattle.knox_words.specs.declared.op.Op1.{Op1}
-use Rattle.knox_words.specs.declared.op.Op1.TheVariants as un
 use Rattle.knox_words.specs.declared.op.Op2.{Op2}
-use Rattle.knox_words.specs.declared.op.Op2.TheVariants as bin
 use Rattle.operator_names.specs.Names.{op1_named, op2_named}
 use Rattle.knox_lang.specs.declared.expr.Expr.{Expr}
 use Rattle.knox_lang.specs.declared.expr.Expr.TheVariants as exprs
@@ -17,8 +15,10 @@ use Rattle.knox_sexpr.specs.declared.tree.Tree.TheOpen.{Tree-F}
 use Rattle.expr_read.specs.declared.faults.LangWhy.TheVariants.{Form, UnknownName, Width, Arity}
 use Rattle.expr_read.specs.declared.faults.LangFault.{LangFault}
 use Rattle.expr_read.specs.declared.expression.Typed.{Typed}
+use Rattle.expr_read.specs.declared.expression.Extension.{Extension}
+use Rattle.expr_read.specs.declared.expression.Extension.TheVariants.{Zeros, Signs}
 use Rattle.expr_read.specs.declared.expression.Head.{Head}
-use Rattle.expr_read.specs.declared.expression.Head.TheVariants.{Un, Bin, Ite, Bv, Names, Unknown, NoSymbol}
+use Rattle.expr_read.specs.declared.expression.Head.TheVariants.{Un, Bin, Ite, Slice, Longer, Bv, Names, Unknown, NoSymbol}
 use Rattle.expr_read.specs.declared.names.Group.{Group}
 use Rattle.expr_read.specs.declared.names.Group.TheVariants.{Plain, Input, Output, Noise, Device, Spec, Emu, Copy}
 use Rattle.expr_read.specs.declared.names.Named.{Named}
@@ -79,6 +79,27 @@ choice_typed at p (Some w) = Ok (typed (exprs.Ite p.0.expr p.1.expr p.2.expr) w 
 abbrev pub ite_of : Place → Typed × Typed × Typed → Result Typed LangFault
 ite_of at p = choice_typed at p (ite_typed p.0.width p.1.width p.2.width)
 
+-- the bits of an operand from a number down to another, where it has them; their count is the last
+abbrev pub bits_typed : Place → ℕ → ℕ → Typed → Option ℕ → Result Typed LangFault
+bits_typed at high low x None = fails at Width
+bits_typed at high low x (Some w) = Ok (typed (exprs.Slice high low x.expr) w (dearer x.cost 1))
+
+abbrev pub slice_of : Place → ℕ → ℕ → Typed → Result Typed LangFault
+slice_of at high low x = bits_typed at high low x (slice_typed x.width high low)
+
+-- an expression in more bits
+abbrev pub longer : Extension → ℕ → Expr → Expr
+longer Zeros more x = exprs.Uext more x
+longer Signs more x = exprs.Sext more x
+
+-- an operand in more bits, where it may have them; its new width is the last
+abbrev pub longer_typed : Place → Extension → ℕ → Typed → Option ℕ → Result Typed LangFault
+longer_typed at by more x None = fails at Width
+longer_typed at by more x (Some w) = Ok (typed (longer by more x.expr) w (dearer x.cost 1))
+
+abbrev pub longer_of : Place → Extension → ℕ → Typed → Result Typed LangFault
+longer_of at by more x = longer_typed at by more x (extended x.width more)
+
 -- one operand
 abbrev pub one : Place → List Part → Reading
 one at (a ∷ []) names = a.reading names
@@ -109,6 +130,37 @@ three at parts names = fails at Arity
 
 -- ---- forms
 
+-- two numbers
+abbrev pub numbers : Tree → Tree → Result (ℕ × ℕ) LangFault
+numbers a b = do
+  m ← number_of a
+  n ← number_of b
+  Ok (m, n)
+
+-- the bits between two numbers of an operand, which is read behind them
+abbrev pub slice_read : Place → Tree → Tree → Result Typed LangFault → Result Typed LangFault
+slice_read at high low read = do
+  bounds ← numbers high low
+  x ← read
+  slice_of at bounds.0 bounds.1 x
+
+-- (slice high low e)
+abbrev pub sliced : Place → List Part → Reading
+sliced at (high ∷ low ∷ a ∷ []) names = slice_read at high.tree low.tree (a.reading names)
+sliced at parts names = fails at Arity
+
+-- an operand, which is read behind a number, in as many bits more
+abbrev pub longer_read : Place → Extension → Tree → Result Typed LangFault → Result Typed LangFault
+longer_read at by n read = do
+  more ← number_of n
+  x ← read
+  longer_of at by more x
+
+-- (uext n e) and (sext n e)
+abbrev pub extended_by : Place → Extension → List Part → Reading
+extended_by at by (n ∷ a ∷ []) names = longer_read at by n.tree (a.reading names)
+extended_by at by parts names = fails at Arity
+
 -- (bv w n)
 abbrev pub bv_word : Tree → Tree → Result Typed LangFault
 bv_word width number = do
@@ -128,21 +180,12 @@ abbrev pub named_by_form : Place → Group → List Part → Reading
 named_by_form at group (x ∷ []) names = named_symbol group x.tree names
 named_by_form at group parts names = fails at Form
 
--- the operators that expressions have so far
-abbrev pub un_head : Op1 → Head
-un_head un.Not = Un un.Not
-un_head un.Redor = Un un.Redor
-un_head o = Unknown
-
-abbrev pub bin_head : Op2 → Head
-bin_head bin.Eq = Bin bin.Eq
-bin_head bin.And = Bin bin.And
-bin_head o = Unknown
-
 -- the forms that are no operators on words
 abbrev pub form : List ℕ → Head
 form name =
-    if bytes_eq name (codes "ite") then Ite else if bytes_eq name (codes "bv") then Bv
+    if bytes_eq name (codes "ite") then Ite else if bytes_eq name (codes "slice") then Slice
+    else if bytes_eq name (codes "uext") then Longer Zeros else if bytes_eq name (codes "sext") then Longer Signs
+    else if bytes_eq name (codes "bv") then Bv
     else if bytes_eq name (codes "in") then Names Input else if bytes_eq name (codes "out") then Names Output
     else if bytes_eq name (codes "noise") then Names Noise else if bytes_eq name (codes "s") then Names Spec
     else if bytes_eq name (codes "c") then Names Device else if bytes_eq name (codes "e") then Names Emu
@@ -151,11 +194,11 @@ form name =
 -- an operator, or else another head
 abbrev pub un_or : Option Op1 → Head → Head
 un_or None h = h
-un_or (Some o) h = un_head o
+un_or (Some o) h = Un o
 
 abbrev pub bin_or : Option Op2 → Head → Head
 bin_or None h = h
-bin_or (Some o) h = bin_head o
+bin_or (Some o) h = Bin o
 
 abbrev pub keyword : List ℕ → Head
 keyword name = un_or (op1_named name) (bin_or (op2_named name) (form name))
@@ -173,6 +216,8 @@ abbrev pub applied : Place → Place → Head → List Part → Reading
 applied at head_at (Un o) parts names = one at parts names >>= λ x. Ok (un_of o x)
 applied at head_at (Bin o) parts names = two at parts names >>= λ p. bin_of at o p
 applied at head_at Ite parts names = three at parts names >>= λ p. ite_of at p
+applied at head_at Slice parts names = sliced at parts names
+applied at head_at (Longer by) parts names = extended_by at by parts names
 applied at head_at Bv parts names = bv at parts
 applied at head_at (Names group) parts names = named_by_form at group parts names
 applied at head_at Unknown parts names = fails head_at UnknownName

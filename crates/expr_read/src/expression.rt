@@ -4,11 +4,11 @@ ghost use Rattle.knox_lang.specs.declared.expr.Expr.TheVariants as exprs;
 ghost use Rattle.expr_read.specs.declared.faults.LangFault.{LangFault};
 ghost use Rattle.expr_read.specs.declared.expression.Typed.{Typed};
 ghost use Rattle.expr_read.specs.Views.{Gives};
-ghost use Rattle.expr_read.specs.Expressions.{Part, part, dearer, word, literal, named, un_of, bin_of, ite_of, one, second, two, third, three, bv_word, bv, named_symbol, named_by_form, un_head, bin_head, form, keyword, head_of, applied, list, expr_of, expr_of_width};
+ghost use Rattle.expr_read.specs.Expressions.{Part, part, dearer, word, literal, named, un_of, bin_of, ite_of, slice_of, longer, longer_of, numbers, sliced, extended_by, one, second, two, third, three, bv_word, bv, named_symbol, named_by_form, form, keyword, head_of, applied, list, expr_of, expr_of_width};
 
 use crate::faults::{LangFault, LangWhy, fault};
 use crate::names::{Group, Named, find};
-use crate::views::{is_width, number_of, place_of, symbol_of, width_of};
+use crate::views::{MOST_WIDTH, is_width, number_of, place_of, symbol_of, width_of};
 use knox_lang::Expr;
 use knox_sexpr::Tree;
 use knox_text::Place;
@@ -25,12 +25,23 @@ pub struct Typed {
     pub cost: u64,
 }
 
+/// What the bits are that a word gets in front.
+#[derive(Clone, Copy, Debug, PartialEq, Eq)]
+enum Extension {
+    Zeros,
+    Signs,
+}
+
 /// What a list begins with.
 #[derive(Clone, Copy, Debug, PartialEq, Eq)]
 enum Head {
     Un(Op1),
     Bin(Op2),
     Ite,
+    /// Some bits of a word.
+    Slice,
+    /// A word in more bits.
+    Longer(Extension),
     Bv,
     /// A form that names a word of the circuit.
     Names(Group),
@@ -44,32 +55,12 @@ fn keyword(name: &[u8]) -> Head
     ensures { result ≡ keyword name.now }
 {
     if let Some(op) = op1_named(name) {
-        return un_head(op);
+        return Head::Un(op);
     }
     if let Some(op) = op2_named(name) {
-        return bin_head(op);
+        return Head::Bin(op);
     }
     form(name)
-}
-
-/// An operator with one operand, where expressions have it so far.
-fn un_head(op: Op1) -> Head
-    ensures { result ≡ un_head op }
-{
-    match op {
-        Op1::Not | Op1::Redor => Head::Un(op),
-        _ => Head::Unknown,
-    }
-}
-
-/// An operator with two operands, where expressions have it so far.
-fn bin_head(op: Op2) -> Head
-    ensures { result ≡ bin_head op }
-{
-    match op {
-        Op2::Eq | Op2::And => Head::Bin(op),
-        _ => Head::Unknown,
-    }
 }
 
 /// The form that is no operator on words.
@@ -78,6 +69,12 @@ fn form(name: &[u8]) -> Head
 {
     if name == b"ite".as_slice() {
         Head::Ite
+    } else if name == b"slice".as_slice() {
+        Head::Slice
+    } else if name == b"uext".as_slice() {
+        Head::Longer(Extension::Zeros)
+    } else if name == b"sext".as_slice() {
+        Head::Longer(Extension::Signs)
     } else if name == b"bv".as_slice() {
         Head::Bv
     } else if name == b"in".as_slice() {
@@ -229,12 +226,65 @@ fn ite_of(alloc: Global, at: Place, c: Typed, x: Typed, y: Typed) -> Result<Type
     Ok(Typed { expr, width, cost })
 }
 
+/// The bits of an operand from a number down to another, where it has them.
+fn slice_of(alloc: Global, at: Place, high: u128, low: u128, x: Typed) -> Result<Typed, LangFault>
+    ensures { Gives result (slice_of at high low x) }
+{
+    if low > high || high >= u128::from(x.width) {
+        return Err(fault(at, LangWhy::Width));
+    }
+    Ok(Typed {
+        width: (high - low + 1) as u8,
+        cost: x.cost.saturating_add(1),
+        expr: Expr::Slice(high as u8, low as u8, Boxed::new(alloc, x.expr)?),
+    })
+}
+
+/// An operand in more bits, where they are not too many.
+fn longer_of(
+    alloc: Global,
+    at: Place,
+    bits: Extension,
+    more: u128,
+    x: Typed,
+) -> Result<Typed, LangFault>
+    ensures { Gives result (longer_of at bits more x) }
+{
+    if more > MOST_WIDTH || u128::from(x.width) + more > MOST_WIDTH {
+        return Err(fault(at, LangWhy::Width));
+    }
+    let more = more as u8;
+    Ok(Typed {
+        width: x.width + more,
+        cost: x.cost.saturating_add(1),
+        expr: longer(bits, more, Boxed::new(alloc, x.expr)?),
+    })
+}
+
+fn longer(bits: Extension, more: u8, x: Boxed<Expr>) -> Expr
+    ensures { result ≡ longer bits more x }
+{
+    match bits {
+        Extension::Zeros => Expr::Uext(more, x),
+        Extension::Signs => Expr::Sext(more, x),
+    }
+}
+
 fn ite(alloc: Global, c: Expr, x: Expr, y: Expr) -> Result<Expr, LangFault>
     ensures { Gives result (Ok (exprs.Ite c x y)) }
 {
     let (x, y) = boxed(alloc, x, y)?;
     let c = Boxed::new(alloc, c)?;
     Ok(Expr::Ite(c, x, y))
+}
+
+/// Two numbers.
+fn numbers(first: &Tree, second: &Tree) -> Result<(u128, u128), LangFault>
+    ensures { Gives result (numbers first.now second.now) }
+{
+    let first = number_of(first)?;
+    let second = number_of(second)?;
+    Ok((first, second))
 }
 
 /// Two expressions, each in a box.
@@ -293,6 +343,8 @@ fn applied(
             let (c, x, y) = three(alloc, at, parts, names)?;
             ite_of(alloc, at, c, x, y)
         }
+        Head::Slice => sliced(alloc, at, parts, names),
+        Head::Longer(bits) => extended(alloc, at, bits, parts, names),
         Head::Bv => bv(at, parts),
         Head::Names(group) => named_by_form(at, group, parts, names),
         Head::Unknown => Err(fault(head_at, LangWhy::UnknownName)),
@@ -306,6 +358,42 @@ fn one(alloc: Global, at: Place, parts: &[Tree], names: &[Named]) -> Result<Type
 {
     match parts {
         [x] => expr(alloc, x, names),
+        _ => Err(fault(at, LangWhy::Arity)),
+    }
+}
+
+/// `(slice high low e)`.
+#[cycle(expressions)]
+fn sliced(alloc: Global, at: Place, parts: &[Tree], names: &[Named]) -> Result<Typed, LangFault>
+    ensures { Gives result (sliced at (map part parts.now) names.now) }
+{
+    match parts {
+        [high, low, x] => {
+            let (high, low) = numbers(high, low)?;
+            let x = expr(alloc, x, names)?;
+            slice_of(alloc, at, high, low, x)
+        }
+        _ => Err(fault(at, LangWhy::Arity)),
+    }
+}
+
+/// `(uext n e)` and `(sext n e)`.
+#[cycle(expressions)]
+fn extended(
+    alloc: Global,
+    at: Place,
+    bits: Extension,
+    parts: &[Tree],
+    names: &[Named],
+) -> Result<Typed, LangFault>
+    ensures { Gives result (extended_by at bits (map part parts.now) names.now) }
+{
+    match parts {
+        [more, x] => {
+            let more = number_of(more)?;
+            let x = expr(alloc, x, names)?;
+            longer_of(alloc, at, bits, more, x)
+        }
         _ => Err(fault(at, LangWhy::Arity)),
     }
 }

@@ -7,7 +7,7 @@ use knox_sexpr::Tree;
 use knox_text::Place;
 
 /// The greatest width of a word.
-const MOST_WIDTH: u128 = 128;
+pub(crate) const MOST_WIDTH: u128 = 128;
 
 /// The place of the first byte of a tree.
 pub fn place_of(tree: &Tree) -> Place

@@ -19,3 +19,9 @@ decreases-two l = 4 * weights l.parts.now + 1
 
 abbrev pub decreases-three : goal.decreases-three
 decreases-three l = 4 * weights l.parts.now + 1
+
+abbrev pub decreases-sliced : goal.decreases-sliced
+decreases-sliced l = 4 * weights l.parts.now + 1
+
+abbrev pub decreases-extended : goal.decreases-extended
+decreases-extended l = 4 * weights l.parts.now + 1
