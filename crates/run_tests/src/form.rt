@@ -45,7 +45,7 @@ const OUTSIDE: [Edit; 39] = [
         b"(op set ((v 4)) 1 (result #b1)) (op check",
     ),
     (Which::S, b"(eq g secret)", b"(eq g)"),
-    (Which::S, b"(eq g secret)", b"(ulte g secret)"),
+    (Which::S, b"(eq g secret)", b"(eq g (read secret g))"),
     (Which::S, b"secret))))", b"secret)))))"),
     (Which::S, b"secret))))", b"secret)))) (spec)"),
     (
@@ -103,7 +103,7 @@ const OUTSIDE: [Edit; 39] = [
 ];
 
 /// Edits after which the texts say the same.
-const INSIDE: [Edit; 20] = [
+const INSIDE: [Edit; 21] = [
     (Which::C, b"1 sort bitvec 1\n", b"1 sort bitvec 1\r\n"),
     (
         Which::C,
@@ -119,6 +119,11 @@ const INSIDE: [Edit; 20] = [
         Which::S,
         b"(assign secret v)",
         b"(local x 4) (assign x v) (if #b1 ((assign secret x)) ())",
+    ),
+    (
+        Which::S,
+        b"(eq g secret)",
+        b"(redand (xnor g (slice 3 0 (sext 1 secret))))",
     ),
     (Which::D, b"(persistent secret)", b"(persistent @10)"),
     (
