@@ -1,6 +1,6 @@
 -- What words sums and differences are.
-use Rattle.std.proofs.Common.{◌≡◌, ℕ, suc, ◌+◌, ◌-◌, ◌*◌, ◌%◌, ◌^◌, ◌<◌, ◌≤◌, Bool, true, false, not, List, [], ◌∷◌, length, map, refl, sym, ◌∙◌, ap, subst, arith, if◌then◌else◌, add-zero}
-use Rattle.knox_words.specs.Bits.{Bits, bits}
+use Rattle.std.proofs.Common.{◌≡◌, ℕ, suc, ◌+◌, ◌-◌, ◌*◌, ◌%◌, ◌^◌, Bool, true, false, not, List, [], ◌∷◌, length, map, refl, sym, ◌∙◌, ap, arith, if◌then◌else◌, add-zero}
+use Rattle.knox_words.specs.Bits.{bits}
 use Rattle.knox_words.specs.Ops.{op1_value, op2_value}
 use Rattle.knox_words.specs.declared.op.Op1.TheVariants as op1
 use Rattle.knox_words.specs.declared.op.Op2.TheVariants as op2
@@ -11,7 +11,7 @@ use Rattle.bit_gates.specs.Gates.{signal_at, opposite}
 use Rattle.bit_gates.specs.Words.{number, bits_at, word_of, Within, Spells, Gives}
 use Rattle.bit_gates.specs.Sums.{add_bits}
 use Rattle.bit_gates.proofs.WordLemmas.{length-bits, same-lengths, gives-spelled, bits-opposite, bits-constant, within-opposite, within-constant, length-signals}
-use Rattle.bit_gates.proofs.NumberLemmas.{number-sum, number-not, number-lt, length-add_bits, length-not}
+use Rattle.bit_gates.proofs.NumberLemmas.{number-sum, number-not, length-add_bits}
 
 -- the word of a sum of bits
 spelled-sum : (old new : List Gate) (start : Bool) (a r : List Signal) (ys : (ℕ → Bool) → List Bool) (n : (ℕ → Bool) → ℕ) → ((v : ℕ → Bool) → length (bits_at v old a) ≡ length (ys v)) → Spells new r (λ v. add_bits start (bits_at v old a) (ys v)) → ((v : ℕ → Bool) → (number (bits_at v old a) + number (ys v) + (if start then 1 else 0)) % 2 ^ length a ≡ n v) → Gives new r (λ v. bits (length a) (n v))

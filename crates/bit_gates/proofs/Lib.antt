@@ -7,3 +7,4 @@ pub mod PairLemmas
 pub mod NumberLemmas
 pub mod OperatorLemmas
 pub mod ArithmeticLemmas
+pub mod CompareLemmas

@@ -6,6 +6,7 @@
 
 mod arithmetic;
 mod bitwise;
+mod compare;
 mod gates;
 mod pairs;
 mod signal;
@@ -13,5 +14,6 @@ mod sums;
 
 pub use arithmetic::{decremented, difference, incremented, negated, sum};
 pub use bitwise::{and, choice, nand, nor, not, or, xnor, xor};
+pub use compare::{at_least, below, equal, unequal};
 pub use gates::Gates;
 pub use signal::{Gate, Signal, complement};
