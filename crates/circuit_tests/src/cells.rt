@@ -79,9 +79,15 @@ fn noise_fills_what_has_no_init_and_is_not_kept(rt: HostRuntime) -> Result<(), F
     let all = noise(alloc, &[4, 4, 4, 4, 4, 2])?;
     let few = noise(alloc, &[4, 2])?;
     assert!(rt; circuit.fits_factory(&all));
-    assert!(rt; circuit.fits_noise(&keep, &few));
-    assert!(rt; !circuit.fits_noise(&keep, &all));
+    assert!(rt; circuit.fits_noise(&keep, &few) && !circuit.fits_noise(&keep, &all));
     assert!(rt; !circuit.fits_noise(&[true, true], &few));
+    Ok(())
+}
+
+#[test]
+fn noise_has_the_cells_without_init(rt: HostRuntime) -> Result<(), Fail> {
+    let circuit = read(rt.alloc(), STORE)?;
+    let keep = [true, true, false];
     assert!(rt; stand(circuit.noise_cells(&keep)?.as_slice(), &[(8, 0), (10, 1)]));
     assert_eq!(rt; circuit.noise_widths(&keep)?.as_slice(), [4, 2].as_slice());
     Ok(())

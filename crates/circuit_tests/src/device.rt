@@ -1,5 +1,5 @@
 //! A device of eight slots that runs a program of 256 steps out of its ROM.
-use crate::running::{factory, gives, power, read, rom_word, tick};
+use crate::running::{counts, factory, gives, power, read, rom_word, tick};
 use knox_circuit::{Circuit, State};
 use knox_words::{Word, word_or};
 use std::alloc::Global;
@@ -180,11 +180,7 @@ fn the_device_is_read(rt: HostRuntime) -> Result<(), Fail> {
     let text = device_text(alloc)?;
     assert_eq!(rt; text.len(), 11092);
     let circuit = read(alloc, text.as_slice())?;
-    assert_eq!(rt; circuit.lines().len(), 579);
-    assert_eq!(rt; circuit.inputs().len(), 3);
-    assert_eq!(rt; circuit.outputs_list().len(), 2);
-    assert_eq!(rt; circuit.cells().len(), 7);
-    assert_eq!(rt; circuit.bares().len(), 1);
+    assert_eq!(rt; counts(&circuit), [579, 3, 2, 7, 1]);
     // 256 words of the program, 64 slots, and the words of five cells.
     assert_eq!(rt; circuit.word_count(), 325);
     Ok(())

@@ -86,6 +86,17 @@ pub(crate) fn are(found: &Words, width: u8, values: &[u128]) -> bool {
     found.len() == values.len()
 }
 
+/// How many lines, inputs, outputs, cells and bare states a circuit has.
+pub(crate) fn counts(circuit: &Circuit) -> [usize; 5] {
+    [
+        circuit.lines().len(),
+        circuit.inputs().len(),
+        circuit.outputs_list().len(),
+        circuit.cells().len(),
+        circuit.bares().len(),
+    ]
+}
+
 /// Whether these are states with these numbers whose first words stand at these places.
 pub(crate) fn stand(cells: &[Cell], places: &[(u32, u32)]) -> bool {
     let mut left = cells;

@@ -67,14 +67,12 @@ fn store(alloc: Global) -> Result<Table, Fail> {
 #[test]
 fn lines_are_looked_up_by_number(rt: HostRuntime) -> Result<(), Fail> {
     let table = store(rt.alloc())?;
-    assert_eq!(rt; table.len(), 19);
-    assert_eq!(rt; table.as_slice().len(), 19);
-    assert_eq!(rt; table.place(1), Some(0));
-    assert_eq!(rt; table.place(19), Some(18));
-    assert_eq!(rt; table.place(20), None);
-    assert_eq!(rt; sort(&table, 15), Some(SortOf::Words(4)));
-    assert_eq!(rt; sort(&table, 3), None);
-    assert_eq!(rt; sort(&table, 16), None);
+    assert!(rt; table.len() == 19 && table.as_slice().len() == 19);
+    for (number, place) in [(1, Some(0)), (19, Some(18)), (20, None)] {
+        assert!(rt; table.place(number) == place, "{number}");
+    }
+    assert!(rt; sort(&table, 15) == Some(SortOf::Words(4)));
+    assert!(rt; sort(&table, 3).is_none() && sort(&table, 16).is_none());
     Ok(())
 }
 

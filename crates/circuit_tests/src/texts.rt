@@ -1,7 +1,7 @@
 //! Texts of the form in unusual spellings, names of any bytes, and lines that a draft refuses.
-use crate::running::{is_told, line, read};
+use crate::running::{counts, is_told, line, read};
 use circuit_table::{Line, Shape, Why};
-use knox_circuit::{Draft, Port};
+use knox_circuit::{Circuit, Draft, Port};
 use std::test::Fail;
 
 /// Texts in unusual spellings, and how many lines each has. Rows are those of `running::is_told`.
@@ -101,8 +101,7 @@ fn lines_are_read(rt: HostRuntime) -> Result<(), Fail> {
 #[test]
 fn nothing_is_made_of_no_lines(rt: HostRuntime) -> Result<(), Fail> {
     let circuit = read(rt.alloc(), b"")?;
-    assert_eq!(rt; circuit.lines().len(), 0);
-    assert_eq!(rt; circuit.outputs_list().len(), 0);
+    assert_eq!(rt; counts(&circuit), [0; 5]);
     assert_eq!(rt; circuit.word_count(), 0);
     Ok(())
 }
@@ -110,25 +109,32 @@ fn nothing_is_made_of_no_lines(rt: HostRuntime) -> Result<(), Fail> {
 #[test]
 fn ports_and_cells_are_counted(rt: HostRuntime) -> Result<(), Fail> {
     let circuit = read(rt.alloc(), DEVICE)?;
-    assert_eq!(rt; circuit.lines().len(), 9);
-    assert_eq!(rt; circuit.inputs().len(), 1);
-    assert_eq!(rt; circuit.outputs_list().len(), 1);
-    assert_eq!(rt; circuit.cells().len(), 1);
-    assert_eq!(rt; circuit.bares().len(), 0);
+    assert_eq!(rt; counts(&circuit), [9, 1, 1, 1, 0]);
     Ok(())
+}
+
+/// Whether the inputs have the names of `NAMED`.
+fn has_named_inputs(circuit: &Circuit) -> bool {
+    let inputs = circuit.inputs();
+    is_named(inputs.first(), b"a(b")
+        && is_named(inputs.get(1), b"((;);")
+        && is_named(inputs.get(2), b"\xff\x80")
+}
+
+/// Whether the cell has the name of `NAMED`.
+fn has_named_cell(circuit: &Circuit) -> bool {
+    match circuit.cells().first() {
+        Some(cell) => cell.name.as_slice() == b"s;\xc3\xa9".as_slice(),
+        None => false,
+    }
 }
 
 #[test]
 fn names_may_have_any_bytes(rt: HostRuntime) -> Result<(), Fail> {
     let circuit = read(rt.alloc(), NAMED)?;
-    assert!(rt; is_named(circuit.inputs().first(), b"a(b"));
-    assert!(rt; is_named(circuit.inputs().get(1), b"((;);"));
-    assert!(rt; is_named(circuit.inputs().get(2), b"\xff\x80"));
+    assert!(rt; has_named_inputs(&circuit));
     assert!(rt; is_named(circuit.outputs_list().first(), b")"));
-    let Some(cell) = circuit.cells().first() else {
-        return Err("no cell")?;
-    };
-    assert!(rt; cell.name.as_slice() == b"s;\xc3\xa9".as_slice());
+    assert!(rt; has_named_cell(&circuit));
     Ok(())
 }
 
@@ -152,8 +158,6 @@ fn a_refused_line_leaves_a_draft_as_it_was(rt: HostRuntime) -> Result<(), Fail> 
     assert!(rt; is_refused(&mut draft, line(alloc, 9, Shape::Next(1, 2, 2)), Why::Next));
     assert!(rt; is_refused(&mut draft, line(alloc, 3, Shape::Ones(1)), Why::Order));
     let circuit = draft.finish()?;
-    assert_eq!(rt; circuit.lines().len(), 3);
-    assert_eq!(rt; circuit.cells().len(), 1);
-    assert_eq!(rt; circuit.outputs_list().len(), 0);
+    assert_eq!(rt; counts(&circuit), [3, 0, 0, 1, 0]);
     Ok(())
 }
