@@ -1,6 +1,6 @@
 -- Texts that are put line by line, and on two sinks.
-use Rattle.std.proofs.Common.{◌≡◌, ◌∙◌, ℕ, ◌++◌, rules, take, drop, ap, sym, subst, append_assoc, Result, Ok, Err}
-use Rattle.std.proofs.lemmas.List.{take-append-drop}
+use Rattle.std.proofs.Common.{◌≡◌, ◌∙◌, ℕ, List, [], ◌++◌, length, Option, None, Some, append-nil, rules, take, drop, refl, ap, sym, subst, append_assoc, Result, Ok, Err}
+use Rattle.std.proofs.lemmas.List.{take-append-drop, nil_from_length}
 use Rattle.knox_edge.proofs.Known.{Appends-append}
 use Rattle.knox_run.specs.declared.status.Status.TheVariants.{WriteFault, Memory}
 use Rattle.knox_run.specs.Words.{Bytes, Sunk, Appends, Rose, Status}
@@ -22,6 +22,14 @@ puts-next (Ok _) old mid new text line rest is w p =
 puts-next (Err WriteFault) old mid new text line rest is w p = (cut-next old mid new text line rest is w p.0, subst (λ n. Rose n new.faults) w.1 p.1)
 puts-next (Err Memory) old mid new text line rest is w p = cut-next old mid new text line rest is w p
 puts-next (Err _) old mid new text line rest is w p = absurd p
+
+appends-nothing : (o : Option Bytes) → Appends o o []
+appends-nothing None = tt
+appends-nothing (Some xs) = sym (append-nil xs)
+
+-- a text without bytes is written where nothing is put
+pub whole-nothing : (old : Sunk) (text : Bytes) → length text ≡ 0 → Whole old old text
+whole-nothing old text none = (subst (Appends old.written old.written) (sym (nil_from_length text none)) (appends-nothing old.written), refl)
 
 -- no text is written where memory was wanting before
 pub delivers-none : (wanted : Status) (o e : Sunk) (text other : Bytes) → Delivers text other wanted Memory o o e e

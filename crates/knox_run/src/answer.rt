@@ -113,15 +113,16 @@ fn line_length(text: &[u8]) -> usize
 fn put_lines<K: Sink>(sink: &mut K, text: &[u8]) -> Result<(), Status>
     ensures { Puts text.now result (K.told sink.old) (K.told sink.new) }
 {
-    if text.is_empty() {
-        return Ok(());
+    let mut left = text;
+    while !left.is_empty() {
+        let (line, rest) = left.split_at(line_length(left));
+        match sink.put(line) {
+            Ok(()) => left = rest,
+            Err(SinkEnd::Failed) => return Err(Status::WriteFault),
+            Err(SinkEnd::Memory) => return Err(Status::Memory),
+        }
     }
-    let (line, rest) = text.split_at(line_length(text));
-    match sink.put(line) {
-        Ok(()) => put_lines(sink, rest),
-        Err(SinkEnd::Failed) => Err(Status::WriteFault),
-        Err(SinkEnd::Memory) => Err(Status::Memory),
-    }
+    Ok(())
 }
 
 /// Writes an answer, and answers its status, or that of a line that wasn't written to its end.
