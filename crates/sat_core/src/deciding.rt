@@ -12,6 +12,7 @@ use crate::storing::list_clause;
 use crate::trail::{Trail, force};
 use crate::watch_lists::Watches;
 use knox_cnf::Lit;
+use smallvec::SmallVec;
 use std::alloc::AllocError;
 
 /// Makes a literal true by decision.
@@ -101,7 +102,7 @@ pub fn attach(search: &mut Search, lemma: Vec<Lit>) -> Result<(), AllocError>
     let first = lemma[0];
     let place = search.stored.len();
     list_clause(search.lists.as_mut_slice(), lemma.as_slice(), place)?;
-    search.stored.push(Watches::new(lemma))?;
+    search.stored.push(Watches::new(SmallVec::from_vec(lemma)))?;
     force(&mut search.trail, &mut search.reasons, first, place)?;
     search.looked = search.stored.len();
     Ok(())

@@ -8,10 +8,11 @@ ghost use Rattle.sat_core.specs.Storing.{IsAbove, AddsOnce, IsSetOf, Fits, Lists
 use crate::trail::Trail;
 use crate::watch_lists::{Places, Watches, add_watch};
 use knox_cnf::{Clause, Lit};
+use smallvec::SmallVec;
 use std::alloc::{AllocError, Global};
 
 /// Adds a literal, if it isn't there already. The marks tell of each.
-fn add_once(lit: Lit, marks: &mut Trail, literals: &mut Vec<Lit>) -> Result<(), AllocError>
+fn add_once(lit: Lit, marks: &mut Trail, literals: &mut SmallVec<Lit, 3>) -> Result<(), AllocError>
     requires { marks.old ≡ literals.old.items }
     ensures marks { OnOk result (marks.new ≡ literals.new.items) }
     ensures adds { OnOk result (AddsOnce lit literals.old.items literals.new.items) }
@@ -30,7 +31,7 @@ fn set_of(alloc: Global, lits: &[Lit], marks: &mut Trail) -> Result<Watches, All
     ensures set { IfOk result (λ w. IsSetOf lits.now w) }
     ensures clear { OnOk result (marks.new ≡ []) }
 {
-    let mut literals = Vec::new(alloc);
+    let mut literals = SmallVec::new(alloc);
     for lit in lits {
         add_once(*lit, marks, &mut literals)?;
     }

@@ -20,4 +20,4 @@ returns-clause-search c =
     subst (λ ls. Stands c.push.new.self.items ls c.force.new.trail c.force.new.reasons.items c.args.search.now.decisions.items c.args.search.now.done c.len-search.result)
     (sym (with_items_is c.args.search.now.lists c.list_clause.new.lists (listed.long ∙ sym c.args.search.now.lists.ok.0)))
     (stands-attached c.args.search.now.stored.items c.push.new.self.items c.args.search.now.lists.items c.list_clause.new.lists c.args.search.now.trail c.force.new.trail c.args.lemma.items c.args.search.now.reasons.items c.force.new.reasons.items c.args.search.now.decisions.items c.args.search.now.done c.args.search.now.looked c.len-place.result c.len-search.result c.index-first.result.now
-    a first (c.len-place.ensures ∙ c.args.search.now.stored.ok.0) (c.in_ok-push.ensures.items ∙ ap (λ w. c.args.search.now.stored.items ++ w ∷ []) c.new.ensures) c.in_ok-force.ensures.trail c.in_ok-force.ensures.reasons (c.len-search.ensures ∙ c.push.new.self.ok.0) c.requires.quiet c.requires.fits listed c.requires.search)
+    a first (c.len-place.ensures ∙ c.args.search.now.stored.ok.0) (c.in_ok-push.ensures.items ∙ ap (λ w. c.args.search.now.stored.items ++ w ∷ []) (c.new.ensures ∙ c.from_vec.ensures.items)) c.in_ok-force.ensures.trail c.in_ok-force.ensures.reasons (c.len-search.ensures ∙ c.push.new.self.ok.0) c.requires.quiet c.requires.fits listed c.requires.search)
